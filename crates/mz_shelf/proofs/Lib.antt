@@ -1,0 +1,5 @@
+pub mod ChainLemmas
+mod EntryLemmas
+mod FolderLemmas
+mod KnownBytesLemmas
+mod MemoryLemmas

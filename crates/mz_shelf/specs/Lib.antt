@@ -1,0 +1,7 @@
+pub mod Act
+pub mod Chain
+pub mod Entries
+pub mod Folder
+pub mod Memory
+pub mod Shelf
+pub mod State

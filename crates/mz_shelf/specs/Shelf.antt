@@ -1,0 +1,62 @@
+-- What a shelf's calls do, each answer with the state that it leaves.
+use Rattle.std.specs.Prelude.{◌≡◌, ◌<◌, ◌≤◌, ℕ, List, length, Some, None, IfSome, IsSomeAnd}
+use Rattle.std.specs.FinMap.{get}
+use Rattle.mz_shelf.specs.declared.shelf.ShelfErr.{ShelfErr}
+use Rattle.mz_shelf.specs.declared.shelf.ShelfErr.TheVariants.{Failed, Absent, TooLong, NoMemory}
+use Rattle.mz_shelf.specs.State.{State, Files, Rose, KeepsCounts}
+use Rattle.mz_shelf.specs.Act.{Act, after, first}
+
+-- the most bytes that a file may have to be read
+abbrev pub most_bytes : ℕ
+most_bytes = 268435456
+
+-- a read gave these bytes, which are the file's where files are told
+pub record ReadsFile (name : List ℕ) (old new : State) (bytes : List ℕ) : Type 0 where
+  pub contents : new.contents ≡ old.contents
+  pub counts : KeepsCounts old.counts new.counts
+  pub short : length bytes ≤ most_bytes
+  pub told : IfSome old.contents.files (λ (files : Files). get files name ≡ Some bytes)
+
+-- a read failed: the device did, or no file has the name, or it has too many bytes
+pub record ReadFailed (old new : State) : Type 0 where
+  pub contents : new.contents ≡ old.contents
+  pub counts : KeepsCounts old.counts new.counts
+  pub rose : Rose old.counts.faults new.counts.faults
+
+pub record FoundNoFile (name : List ℕ) (old new : State) : Type 0 where
+  pub contents : new.contents ≡ old.contents
+  pub counts : KeepsCounts old.counts new.counts
+  pub rose : Rose old.counts.misses new.counts.misses
+  pub told : IfSome old.contents.files (λ (files : Files). get files name ≡ None)
+
+pub record FoundLongFile (name : List ℕ) (old new : State) : Type 0 where
+  pub contents : new.contents ≡ old.contents
+  pub counts : KeepsCounts old.counts new.counts
+  pub rose : Rose old.counts.overs new.counts.overs
+  pub told : IfSome old.contents.files (λ (files : Files). IsSomeAnd (get files name) (λ bytes. most_bytes < length bytes))
+
+-- why a read gave nothing; after want of memory nothing changed
+abbrev pub ReadStopped : List ℕ → State → State → ShelfErr → Type 0
+ReadStopped name old new Failed = ReadFailed old new
+ReadStopped name old new Absent = FoundNoFile name old new
+ReadStopped name old new TooLong = FoundLongFile name old new
+ReadStopped name old new NoMemory = new ≡ old
+
+-- an act was done whole
+pub record DidAct (act : Act) (old new : State) : Type 0 where
+  pub contents : new.contents ≡ after act old.contents
+  pub counts : KeepsCounts old.counts new.counts
+
+-- an act failed after some of its bytes
+pub record ActFailed (act : Act) (old new : State) : Type 0 where
+  pub done : ℕ
+  pub contents : new.contents ≡ after (first done act) old.contents
+  pub counts : KeepsCounts old.counts new.counts
+  pub rose : Rose old.counts.faults new.counts.faults
+
+-- why an act wasn't done whole; a write or a say is never Absent or TooLong
+abbrev pub ActStopped : Act → State → State → ShelfErr → Type 0
+ActStopped act old new Failed = ActFailed act old new
+ActStopped act old new Absent = ⊥
+ActStopped act old new TooLong = ⊥
+ActStopped act old new NoMemory = new ≡ old

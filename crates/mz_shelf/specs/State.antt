@@ -1,0 +1,34 @@
+-- What a contract sees of a shelf.
+use Rattle.std.specs.Prelude.{ℕ, ◌+◌, ◌-◌, ◌^◌, ◌≤◌, min, List, Option}
+use Rattle.std.specs.Ordering.{nat_cmp}
+use Rattle.std.specs.Cmp.Lexicographic.{slice_cmp}
+use Rattle.std.specs.FinMap.{FinMap}
+
+-- the bytes of each file, by the bytes of its name
+abbrev pub Files : Type 0
+Files = FinMap (slice_cmp nat_cmp) (List ℕ)
+
+-- the files and the said bytes; `None` where the shelf doesn't tell
+pub record Contents : Type 0 where
+  pub files : Option Files
+  pub said : Option (List ℕ)
+
+-- how often a call failed, missed a file, and met one that is too long
+pub record Counts : Type 0 where
+  pub faults : ℕ
+  pub misses : ℕ
+  pub overs : ℕ
+
+pub record State : Type 0 where
+  pub contents : Contents
+  pub counts : Counts
+
+-- a count rose where it grew, or stands at the last value of a u64
+abbrev pub Rose : ℕ → ℕ → Type 0
+Rose before now = min (before + 1) (2 ^ 64 - 1) ≤ now
+
+-- no count fell
+pub record KeepsCounts (before now : Counts) : Type 0 where
+  pub faults : before.faults ≤ now.faults
+  pub misses : before.misses ≤ now.misses
+  pub overs : before.overs ≤ now.overs
