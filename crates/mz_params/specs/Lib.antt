@@ -1,0 +1,7 @@
+pub mod Entry
+pub mod Given
+pub mod KeyKind
+pub mod KeyName
+pub mod Lines
+pub mod ParamFile
+pub mod Value

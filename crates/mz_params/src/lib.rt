@@ -1,0 +1,17 @@
+//! The parameter file of Marxan with Zones, in this project's profile: its keys, the parameters
+//! that it gives, and its faults.
+#![tactic(auto)]
+
+mod fault;
+mod file;
+mod given;
+mod key;
+mod kind;
+mod line;
+mod params;
+mod value;
+mod word;
+
+pub use fault::ParamFault;
+pub use key::{Key, key_name};
+pub use params::Params;
