@@ -1,0 +1,5 @@
+pub mod PositionLemmas
+pub mod RecordLemmas
+pub mod LeftLemmas
+pub mod CellLemmas
+pub mod RowLemmas
