@@ -1,0 +1,4 @@
+pub mod AcceptanceLemmas
+pub mod AdaptiveLemmas
+pub mod ScheduleLemmas
+pub mod TableLemmas

@@ -1,0 +1,4 @@
+pub mod Acceptance
+pub mod Adaptive
+pub mod Schedule
+pub mod Table
