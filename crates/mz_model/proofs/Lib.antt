@@ -1,0 +1,14 @@
+pub mod AmountLaws
+pub mod BuildLaws
+pub mod Checked
+pub mod ExampleLaws
+pub mod GroupLaws
+pub mod LimitLaws
+pub mod ListLaws
+pub mod NeighbourLaws
+pub mod PlaceLaws
+pub mod Products
+pub mod ScoreLaws
+pub mod TargetLaws
+pub mod TouchLaws
+pub mod ZoneLaws

@@ -1,0 +1,7 @@
+use Rattle.std.proofs.Common.{◌≡◌, ℕ, List, [], take}
+use Rattle.mz_model.specs.Built.{touching}
+use Rattle.mz_model.specs.Groups.{filled}
+use Rattle.mz_model.proofs.build.add_touches.Given as goal
+
+abbrev pub invariant-loop-unit : goal.invariant-loop-unit
+invariant-loop-unit l = l.lists ≡ filled l.fn.lists (touching l.row l.part (take l.unit-index l.holders))

@@ -1,0 +1,30 @@
+use Rattle.std.proofs.Common.{◌≡◌, ℕ, ◌<◌, ◌∙◌, ap, sym, subst, length, arith}
+use Rattle.std.specs.List.{All}
+use Rattle.std.proofs.lemmas.List.Elements.{All-same}
+use Rattle.std.proofs.lemmas.Result.{IfOk-weaker}
+use Rattle.mz_model.specs.Built.{greatest_part_of}
+use Rattle.mz_model.specs.Parts.{unit_count, feature_count, row_count, target_at}
+use Rattle.mz_model.specs.Places.{list_below}
+use Rattle.mz_model.specs.Targets.{touches_of}
+use Rattle.mz_model.proofs.AmountLaws.{holders_of-in_range}
+use Rattle.mz_model.proofs.BuildLaws.{empty_lists, row-read, touches_upto, touches-done, touches-more}
+use Rattle.mz_model.proofs.PlaceLaws.{length-list_below}
+use Rattle.mz_model.proofs.build.touches_by_unit.Goals as goal
+
+pub at-requires : goal.at-requires
+at-requires c = (row-read c.args.parts.now c.loop-row.row c.as_slice.result.now c.args.holders.now c.requires.valid (omega (arith, c.len-row-end.ensures)) c.as_slice.ensures c.requires.holders).inside
+
+pub add_touches-requires : goal.add_touches-requires
+add_touches-requires c =
+    let all : All (λ (holder : ℕ × ℕ). holder.0 < unit_count c.args.parts.now) c.at.result.now = All-same (λ (holder : ℕ × ℕ). holder.0 < unit_count c.args.parts.now) _ _ (c.at.ensures ∙ (row-read c.args.parts.now c.loop-row.row c.as_slice.result.now c.args.holders.now c.requires.valid (omega (arith, c.len-row-end.ensures)) c.as_slice.ensures c.requires.holders).holders_are) (holders_of-in_range c.args.parts.now.amounts (target_at c.args.parts.now c.loop-row.row).feature (unit_count c.args.parts.now) (feature_count c.args.parts.now) c.requires.valid.shape.amounts) in
+    subst (λ n. All (λ (holder : ℕ × ℕ). holder.0 < n) c.at.result.now) (sym (ap length c.loop-row.invariant ∙ length-list_below (unit_count c.args.parts.now) (touches_upto c.args.parts.now c.loop-row.row))) all
+
+pub loop-row-preserved : goal.loop-row-preserved
+loop-row-preserved c =
+    touches-more c.args.parts.now c.loop-row.row c.greatest_part-part.result c.at.result.now c.loop-row.lists c.add_touches.new.lists c.requires.valid (omega (arith, c.len-row-end.ensures))
+    (c.greatest_part-part.ensures ∙ ap (greatest_part_of c.args.parts.now) (row-read c.args.parts.now c.loop-row.row c.as_slice.result.now c.args.holders.now c.requires.valid (omega (arith, c.len-row-end.ensures)) c.as_slice.ensures c.requires.holders).target_is)
+    (c.at.ensures ∙ (row-read c.args.parts.now c.loop-row.row c.as_slice.result.now c.args.holders.now c.requires.valid (omega (arith, c.len-row-end.ensures)) c.as_slice.ensures c.requires.holders).holders_are)
+    c.loop-row.invariant c.in_ok-add_touches.ensures
+
+pub returns : goal.returns
+returns c = IfOk-weaker c.compressed.result (λ groups. groups ≡ c.loop-row.lists) (λ groups. groups ≡ list_below (unit_count c.args.parts.now) (touches_of c.args.parts.now)) (λ groups same. same ∙ touches-done c.args.parts.now c.loop-row.row c.loop-row.lists (omega (arith, c.len-row-end.ensures)) c.loop-row.invariant) c.compressed.ensures

@@ -1,0 +1,13 @@
+pub mod Amounts
+pub mod Boundary
+pub mod Built
+pub mod Examples
+pub mod Groups
+pub mod Items
+pub mod Parts
+pub mod Places
+pub mod Plans
+pub mod Scores
+pub mod Targets
+pub mod Valid
+pub mod Zones

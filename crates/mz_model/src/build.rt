@@ -1,0 +1,193 @@
+//! A problem from its parts: the lists that it keeps beside them.
+ghost use Rattle.std.specs.Prelude.{◌≡◌, ◌+◌, ◌<◌, ◌≤◌, ◌==◌, IfOk, List, [], length, map, slice_index};
+ghost use Rattle.std.specs.Int.{bit_at};
+ghost use Rattle.std.specs.List.{All};
+ghost use Rattle.mz_model.specs.Amounts.{holders_of};
+ghost use Rattle.mz_model.specs.Boundary.{neighbours_of};
+ghost use Rattle.mz_model.specs.Built.{greatest_part_of, touching};
+ghost use Rattle.mz_model.specs.Groups.{filled};
+ghost use Rattle.mz_model.specs.Parts.{unit_count, zone_count, feature_count, row_count};
+ghost use Rattle.mz_model.specs.Places.{list_below, places_below};
+ghost use Rattle.mz_model.specs.Targets.{touches_of};
+ghost use Rattle.mz_model.specs.Valid.{IsInShape, IsValid};
+ghost use Rattle.mz_model.specs.Zones.{allowed_zones, counts_of, free_units};
+
+use crate::groups::Groups;
+use crate::lists::Lists;
+use crate::parts::{Parts, Target};
+use crate::problem::Problem;
+use mz_num::NoMemory;
+use std::alloc::Global;
+
+impl Problem {
+    /// The problem of these parts.
+    pub fn build(alloc: Global, parts: Parts) -> Result<Problem, NoMemory>
+        requires { IsValid parts }
+        ensures { IfOk result (λ problem. problem ≡ parts) }
+    {
+        let zones = zones_by_unit(alloc, &parts)?;
+        let free = free_of(alloc, &parts, &zones)?;
+        let counts = counts_of_free(alloc, &parts, &zones, free.as_slice())?;
+        let neighbours = neighbours_by_unit(alloc, &parts)?;
+        let holders = holders_by_feature(alloc, &parts)?;
+        let touches = touches_by_unit(alloc, &parts, &holders)?;
+        Ok(Problem {
+            parts,
+            zones,
+            free,
+            counts,
+            neighbours,
+            holders,
+            touches,
+        })
+    }
+}
+
+/// The allowed zones of each unit, in rising order.
+fn zones_by_unit(alloc: Global, parts: &Parts) -> Result<Groups<u8>, NoMemory>
+    requires { IsValid parts.now }
+    ensures { IfOk result (λ zones. zones ≡ list_below (unit_count parts.now) (allowed_zones parts.now)) }
+{
+    let mut zones = Groups::new(alloc)?;
+    let mut list = Vec::new(alloc);
+    let count = parts.zone_ids.len() as u8;
+    let sets = parts.allowed.as_slice();
+    for set in sets {
+        list.clear();
+        add_zones(*set, count, &mut list)?;
+        zones.push(list.as_slice())?;
+    }
+    Ok(zones)
+}
+
+/// Adds the zones of a set to an empty list.
+fn add_zones(set: u64, zones: u8, list: &mut Vec<u8>) -> Result<(), NoMemory>
+    requires few { zones ≤ 60 }
+    requires empty { list.old.items ≡ [] }
+    ensures { IfOk result (λ _. list.new.items ≡ places_below zones (λ zone. bit_at set zone == 1)) }
+{
+    for zone in 0..zones {
+        if (set >> zone) & 1 == 1 {
+            list.push(zone)?;
+        }
+    }
+    Ok(())
+}
+
+/// The places of the units that have two allowed zones or more.
+fn free_of(alloc: Global, parts: &Parts, zones: &Groups<u8>) -> Result<Vec<u32>, NoMemory>
+    requires valid { IsValid parts.now }
+    requires zones { zones.now ≡ list_below (unit_count parts.now) (allowed_zones parts.now) }
+    ensures { IfOk result (λ free. free.items ≡ free_units parts.now) }
+{
+    let mut free = Vec::new(alloc);
+    for unit in 0..parts.unit_ids.len() as u32 {
+        if zones.at(unit as usize).len() > 1 {
+            free.push(unit)?;
+        }
+    }
+    Ok(free)
+}
+
+/// The number of allowed zones of each free unit.
+fn counts_of_free(
+    alloc: Global,
+    parts: &Parts,
+    zones: &Groups<u8>,
+    free: &[u32],
+) -> Result<Vec<u8>, NoMemory>
+    requires valid { IsValid parts.now }
+    requires zones { zones.now ≡ list_below (unit_count parts.now) (allowed_zones parts.now) }
+    requires free { free.now ≡ free_units parts.now }
+    ensures { IfOk result (λ counts. counts.items ≡ counts_of parts.now) }
+{
+    let _ = parts;
+    let mut counts = Vec::with_capacity(alloc, free.len())?;
+    for unit in free {
+        counts.push(zones.at(*unit as usize).len() as u8)?;
+    }
+    Ok(counts)
+}
+
+/// The neighbours of each unit, with the lengths between.
+fn neighbours_by_unit(alloc: Global, parts: &Parts) -> Result<Groups<(u32, u64)>, NoMemory>
+    requires { IsValid parts.now }
+    ensures { IfOk result (λ neighbours. neighbours ≡ list_below (unit_count parts.now) (neighbours_of parts.now)) }
+{
+    let mut lists = Lists::new(alloc, parts.unit_ids.len())?;
+    let edges = parts.edges.as_slice();
+    for (first, second, len) in edges {
+        lists.push(*first as usize, (*second, *len))?;
+        lists.push(*second as usize, (*first, *len))?;
+    }
+    lists.compressed(alloc)
+}
+
+/// The units that hold each feature, with their amounts.
+fn holders_by_feature(alloc: Global, parts: &Parts) -> Result<Groups<(u32, u64)>, NoMemory>
+    requires { IsValid parts.now }
+    ensures { IfOk result (λ holders. holders ≡ list_below (feature_count parts.now) (holders_of parts.now.amounts)) }
+{
+    let mut lists = Lists::new(alloc, parts.feature_ids.len())?;
+    let amounts = parts.amounts.as_slice();
+    for (unit, feature, amount) in amounts {
+        lists.push(*feature as usize, (*unit, *amount))?;
+    }
+    lists.compressed(alloc)
+}
+
+/// The target rows for which each unit gains in some zone, in rising order, with its amounts.
+fn touches_by_unit(
+    alloc: Global,
+    parts: &Parts,
+    holders: &Groups<(u32, u64)>,
+) -> Result<Groups<(u32, u64)>, NoMemory>
+    requires valid { IsValid parts.now }
+    requires holders { holders.now ≡ list_below (feature_count parts.now) (holders_of parts.now.amounts) }
+    ensures { IfOk result (λ touches. touches ≡ list_below (unit_count parts.now) (touches_of parts.now)) }
+{
+    let mut lists = Lists::new(alloc, parts.unit_ids.len())?;
+    for row in 0..parts.targets.len() as u32 {
+        let target = &parts.targets.as_slice()[row as usize];
+        let part = greatest_part(parts, target);
+        add_touches(row, part, holders.at(target.feature as usize), &mut lists)?;
+    }
+    lists.compressed(alloc)
+}
+
+/// The greatest part of an amount that counts for a row in some zone, in millionths.
+fn greatest_part(parts: &Parts, target: &Target) -> u64
+    requires shape { IsInShape parts.now }
+    requires feature { target.now.feature < feature_count parts.now }
+    ensures { result ≡ greatest_part_of parts.now target.now }
+{
+    if target.zone.is_some() {
+        return 1_000_000;
+    }
+    let features = parts.feature_ids.len();
+    let mut greatest = 0;
+    for zone in 0..parts.zone_ids.len() {
+        greatest = greatest.max(
+            parts.fractions.as_slice()[zone * features + target.feature as usize],
+        );
+    }
+    greatest
+}
+
+/// Adds the row to the list of each unit whose amount rounds to a gain, with the amount.
+fn add_touches(
+    row: u32,
+    part: u64,
+    holders: &[(u32, u64)],
+    lists: &mut Lists<(u32, u64)>,
+) -> Result<(), NoMemory>
+    requires { All (λ holder. holder.0 < length lists.old) holders.now }
+    ensures { IfOk result (λ _. lists.new ≡ filled lists.old (touching row part holders.now)) }
+{
+    for (unit, amount) in holders {
+        if *amount as u128 * part as u128 >= 500_000 {
+            lists.push(*unit as usize, (row, *amount))?;
+        }
+    }
+    Ok(())
+}

@@ -1,0 +1,24 @@
+//! The problem of a reserve planner with zones, plans for it, and the score of a plan.
+//!
+//! Units, zones, features and target rows are spoken of by their places from 0, in the order of
+//! their files. Amounts, costs, lengths, levels and scores are whole numbers of ten-thousandths.
+#![tactic(auto)]
+
+mod build;
+mod groups;
+mod lists;
+mod parts;
+mod plan;
+mod problem;
+mod product;
+mod score;
+mod scoring;
+
+pub use parts::{Parts, Target};
+pub use plan::{Plan, PlanFault};
+pub use problem::Problem;
+pub use score::Score;
+pub use scoring::{evaluate, held, short};
+
+#[cfg(test)]
+mod tests;

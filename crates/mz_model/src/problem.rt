@@ -1,0 +1,404 @@
+//! The problem, and what it is made of by place.
+ghost use Rattle.std.specs.Prelude.{◌≡◌, ◌+◌, ◌*◌, ◌<◌, ◌≤◌, ◌^◌, IfOk, IsTrue, length, slice_index, slice_index_or, slice_get, Some, []};
+ghost use Rattle.std.specs.Prelude.{◌==◌};
+ghost use Rattle.std.specs.List.{All, position_or_len};
+ghost use Rattle.mz_model.specs.Amounts.{holders_of};
+ghost use Rattle.mz_model.specs.Boundary.{IsLength, edge_term_of, neighbours_of};
+ghost use Rattle.mz_model.specs.Parts.{unit_count, zone_count, feature_count, row_count, cost_at, fraction_at, outer_at, rate_at, target_at};
+ghost use Rattle.mz_model.specs.Targets.{gain_from, gain_of, touched_rows, touches_of};
+ghost use Rattle.mz_model.specs.Scores.{penalty_term_of};
+ghost use Rattle.mz_model.specs.Valid.{IsPair, IsValid, IsZoneSet};
+ghost use Rattle.mz_model.specs.Zones.{is_allowed, free_units, counts_of, step_of};
+
+use crate::groups::Groups;
+use crate::parts::{Parts, Target};
+use crate::product::{by_millionths, part_of};
+use std::marker::Model;
+
+/// A problem: units that each get one zone, what that costs, and what is asked of a plan.
+#[derive(Debug, Drop)]
+pub struct Problem {
+    pub(crate) parts: Parts,
+    /// The allowed zones of each unit.
+    pub(crate) zones: Groups<u8>,
+    pub(crate) free: Vec<u32>,
+    pub(crate) counts: Vec<u8>,
+    /// The neighbours of each unit, with the lengths between.
+    pub(crate) neighbours: Groups<(u32, u64)>,
+    /// The units that hold each feature, with their amounts.
+    pub(crate) holders: Groups<(u32, u64)>,
+    /// The target rows for which each unit gains in some zone, with its amount of their feature.
+    pub(crate) touches: Groups<(u32, u64)>,
+}
+
+impl Model for Problem {
+    ghost use Rattle.mz_model.specs.declared.parts.Parts.{Parts};
+
+    ghost Value = { Parts };
+
+    ghost use Rattle.mz_model.specs.Built.{IsBuilt};
+
+    ghost view = { λ a. a.parts };
+
+    ghost invariant = { λ a. IsBuilt a.parts a.zones a.free.items a.counts.items a.neighbours a.holders a.touches };
+}
+
+impl Problem {
+    /// The number of units, at most 100,000.
+    #[inline]
+    pub fn units(&self) -> u32
+        ensures count { result ≡ unit_count self.now }
+        ensures small { result ≤ 100000 }
+        ensures valid { IsValid self.now }
+    {
+        self.parts.unit_ids.len() as u32
+    }
+
+    /// The number of zones, 1 to 60.
+    #[inline]
+    pub fn zones(&self) -> u8
+        ensures count { result ≡ zone_count self.now }
+        ensures some_zone { 0 < result }
+        ensures small { result ≤ 60 }
+    {
+        self.parts.zone_ids.len() as u8
+    }
+
+    /// The number of features, at most 10,000.
+    #[inline]
+    pub fn features(&self) -> u32
+        ensures count { result ≡ feature_count self.now }
+        ensures small { result ≤ 10000 }
+    {
+        self.parts.feature_ids.len() as u32
+    }
+
+    /// The number of target rows, at most 100,000.
+    #[inline]
+    pub fn targets(&self) -> u32
+        ensures count { result ≡ row_count self.now }
+        ensures small { result ≤ 100000 }
+    {
+        self.parts.targets.len() as u32
+    }
+
+    pub fn unit_id(&self, unit: u32) -> u32
+        requires { unit < unit_count self.now }
+        ensures { result ≡ slice_index self.now.unit_ids unit }
+    {
+        self.parts.unit_ids.as_slice()[unit as usize]
+    }
+
+    pub fn zone_id(&self, zone: u8) -> u32
+        requires { zone < zone_count self.now }
+        ensures { result ≡ slice_index self.now.zone_ids zone }
+    {
+        self.parts.zone_ids.as_slice()[zone as usize]
+    }
+
+    pub fn feature_id(&self, feature: u32) -> u32
+        requires { feature < feature_count self.now }
+        ensures { result ≡ slice_index self.now.feature_ids feature }
+    {
+        self.parts.feature_ids.as_slice()[feature as usize]
+    }
+
+    /// The name of a feature.
+    pub fn name(&self, feature: u32) -> &[u8]
+        requires { feature < feature_count self.now }
+        ensures { result.now ≡ slice_index_or self.now.names feature [] }
+    {
+        self.parts.names.as_slice()[feature as usize].as_slice()
+    }
+
+    /// The allowed zones of a unit, as a set of bits by place.
+    #[inline]
+    pub fn allowed(&self, unit: u32) -> u64
+        requires { unit < unit_count self.now }
+        ensures set { result ≡ slice_index self.now.allowed unit }
+        ensures of_zones { IsZoneSet (zone_count self.now) result }
+    {
+        self.parts.allowed.as_slice()[unit as usize]
+    }
+
+    /// Whether a unit may have a zone, given as any number.
+    #[inline]
+    pub fn is_allowed(&self, unit: u32, zone: u8) -> bool
+        requires { unit < unit_count self.now }
+        ensures test { result ≡ is_allowed self.now unit zone }
+        ensures in_range { IsTrue result → zone < zone_count self.now }
+    {
+        let set = self.allowed(unit);
+        zone < 64 && (set >> zone) & 1 == 1
+    }
+
+    /// The places of the free units, those with two allowed zones or more, in order.
+    #[inline]
+    pub fn free(&self) -> &[u32]
+        ensures units { result.now ≡ free_units self.now }
+        ensures in_range { All (λ unit. unit < unit_count self.now) result.now }
+        ensures paired { length (counts_of self.now) ≡ length result.now }
+    {
+        self.free.as_slice()
+    }
+
+    /// The number of allowed zones of each free unit, from 2 to 60.
+    #[inline]
+    pub fn counts(&self) -> &[u8]
+        ensures counts { result.now ≡ counts_of self.now }
+        ensures in_range { All (λ count. (2 ≤ count) × (count ≤ 60)) result.now }
+        ensures paired { length result.now ≡ length (free_units self.now) }
+    {
+        self.counts.as_slice()
+    }
+
+    /// The place of the available zone.
+    #[inline]
+    pub fn available(&self) -> u8
+        ensures zone { result ≡ self.now.available }
+        ensures in_range { result < zone_count self.now }
+    {
+        self.parts.available
+    }
+
+    /// The cost term of a unit in a zone, at most 10^18.
+    #[inline]
+    pub fn cost_of(&self, unit: u32, zone: u8) -> u64
+        requires unit { unit < unit_count self.now }
+        requires zone { zone < zone_count self.now }
+        ensures term { result ≡ cost_at self.now unit zone }
+        ensures small { result ≤ 10 ^ 18 }
+    {
+        self.parts.costs.as_slice()[unit as usize * self.parts.zone_ids.len() + zone as usize]
+    }
+
+    /// The number of neighbours of a unit.
+    #[inline]
+    pub fn degree(&self, unit: u32) -> u32
+        requires { unit < unit_count self.now }
+        ensures count { result ≡ length (neighbours_of self.now unit) }
+        ensures small { result ≤ 2000000 }
+    {
+        self.neighbours(unit).len() as u32
+    }
+
+    /// The neighbours of a unit, each with the length between the two.
+    #[inline]
+    pub fn neighbours(&self, unit: u32) -> &[(u32, u64)]
+        requires { unit < unit_count self.now }
+        ensures pairs { result.now ≡ neighbours_of self.now unit }
+        ensures units { All (λ pair. pair.0 < unit_count self.now) result.now }
+        ensures lengths { All (λ pair. IsLength self.now pair.1) result.now }
+        ensures small { length result.now ≤ 2000000 }
+    {
+        self.neighbours.at(unit as usize)
+    }
+
+    /// One neighbour of a unit, with the length between the two.
+    #[inline]
+    pub fn neighbour(&self, unit: u32, i: u32) -> (u32, u64)
+        requires unit { unit < unit_count self.now }
+        requires place { i < length (neighbours_of self.now unit) }
+        ensures pair { slice_get (neighbours_of self.now unit) i ≡ Some result }
+        ensures in_range { result.0 < unit_count self.now }
+        ensures length { IsLength self.now result.1 }
+    {
+        self.neighbours(unit)[i as usize]
+    }
+
+    /// The length of a unit's boundary that no unit of the problem shares.
+    #[inline]
+    pub fn outer(&self, unit: u32) -> u64
+        requires { unit < unit_count self.now }
+        ensures length { result ≡ outer_at self.now unit }
+        ensures allowed { IsLength self.now result }
+    {
+        self.parts.outer.as_slice()[unit as usize]
+    }
+
+    /// The boundary term of a length between two zones, at most 10^18.
+    #[inline]
+    pub fn edge_term(&self, len: u64, k: u8, l: u8) -> u64
+        requires length { IsLength self.now len }
+        requires first { k < zone_count self.now }
+        requires second { l < zone_count self.now }
+        ensures term { result ≡ edge_term_of self.now len k l }
+        ensures small { result ≤ 10 ^ 18 }
+    {
+        by_millionths(len, self.rate(k, l))
+    }
+
+    /// The rate of a boundary between two zones, in millionths.
+    #[inline]
+    fn rate(&self, k: u8, l: u8) -> u64
+        requires first { k < zone_count self.now }
+        requires second { l < zone_count self.now }
+        ensures rate { result ≡ rate_at self.now k l }
+        ensures valid { IsValid self.now }
+    {
+        self.parts.rates.as_slice()[k as usize * self.parts.zone_ids.len() + l as usize]
+    }
+
+    /// A target row; its level and its weight are at most 10^18.
+    #[inline]
+    pub fn target(&self, t: u32) -> Target
+        requires { t < row_count self.now }
+        ensures row { result ≡ target_at self.now t }
+        ensures feature { result.feature < feature_count self.now }
+        ensures level { result.level ≤ 10 ^ 18 }
+        ensures weight { result.weight ≤ 10 ^ 18 }
+    {
+        self.parts.targets.as_slice()[t as usize]
+    }
+
+    /// What a unit gains for a target row in a zone, at most 10^18.
+    pub fn gain(&self, t: u32, unit: u32, zone: u8) -> u64
+        requires row { t < row_count self.now }
+        requires unit { unit < unit_count self.now }
+        requires zone { zone < zone_count self.now }
+        ensures gain { result ≡ gain_of self.now t unit zone }
+        ensures small { result ≤ 10 ^ 18 }
+    {
+        match self.touches(unit).binary_search_by_key(&t, |touch| touch.0) {
+            Ok(i) => self.touched_gain(unit, i as u32, zone),
+            Err(_) => 0,
+        }
+    }
+
+    /// The number of target rows for which a unit gains in some zone.
+    #[inline]
+    pub fn touched(&self, unit: u32) -> u32
+        requires { unit < unit_count self.now }
+        ensures count { result ≡ length (touched_rows self.now unit) }
+        ensures small { result ≤ row_count self.now }
+    {
+        self.touches(unit).len() as u32
+    }
+
+    /// One of the target rows for which a unit gains in some zone; these rise.
+    #[inline]
+    pub fn touched_row(&self, unit: u32, i: u32) -> u32
+        requires unit { unit < unit_count self.now }
+        requires place { i < length (touched_rows self.now unit) }
+        ensures row { result ≡ slice_index (touched_rows self.now unit) i }
+        ensures in_range { result < row_count self.now }
+    {
+        self.touches(unit)[i as usize].0
+    }
+
+    /// The target rows for which a unit gains in some zone, each with the unit's amount of its feature.
+    #[inline]
+    pub fn touches(&self, unit: u32) -> &[(u32, u64)]
+        requires { unit < unit_count self.now }
+        ensures touches { result.now ≡ touches_of self.now unit }
+        ensures rows { All (λ touch. touch.0 < row_count self.now) result.now }
+        ensures paired { length (touched_rows self.now unit) ≡ length result.now }
+        ensures small { length result.now ≤ row_count self.now }
+        ensures valid { IsValid self.now }
+    {
+        self.touches.at(unit as usize)
+    }
+
+    /// What a unit gains in a zone for one of the target rows that it touches: no search.
+    #[inline]
+    pub fn touched_gain(&self, unit: u32, i: u32, zone: u8) -> u64
+        requires unit { unit < unit_count self.now }
+        requires place { i < length (touched_rows self.now unit) }
+        requires zone { zone < zone_count self.now }
+        ensures gain { result ≡ gain_of self.now (slice_index (touched_rows self.now unit) i) unit zone }
+        ensures small { result ≤ 10 ^ 18 }
+    {
+        let (row, amount) = self.touches(unit)[i as usize];
+        self.gain_from(row, amount, zone)
+    }
+
+    /// The part of a feature's amounts that counts in a zone, in millionths.
+    #[inline]
+    fn fraction(&self, zone: u8, feature: u32) -> u64
+        requires zone { zone < zone_count self.now }
+        requires feature { feature < feature_count self.now }
+        ensures { result ≡ fraction_at self.now zone feature }
+    {
+        self.parts.fractions.as_slice()[zone as usize * self.parts.feature_ids.len()
+            + feature as usize]
+    }
+
+    /// The penalty of a target row for which so much is held, at most 10^18.
+    #[inline]
+    pub fn penalty_term(&self, t: u32, held: u64) -> u64
+        requires { t < row_count self.now }
+        ensures term { result ≡ penalty_term_of self.now t held }
+        ensures small { result ≤ 10 ^ 18 }
+    {
+        let target = self.target(t);
+        let missing = target.level.saturating_sub(held);
+        if missing == 0 {
+            return 0;
+        }
+        part_of(target.weight, missing, target.level)
+    }
+
+    /// The zone that stands `shift` places on from a unit's zone in its allowed zones, going round.
+    #[inline]
+    pub fn step(&self, unit: u32, zone: u8, shift: u8) -> u8
+        requires unit { unit < unit_count self.now }
+        requires zone { IsTrue (is_allowed self.now unit zone) }
+        ensures zone { result ≡ step_of self.now unit zone shift }
+        ensures allowed { IsTrue (is_allowed self.now unit result) }
+        ensures in_range { result < zone_count self.now }
+    {
+        let zones = self.zones.at(unit as usize);
+        let place = place_of(zones, zone);
+        zones[(place + shift as usize) % zones.len()]
+    }
+
+    /// The pairs of neighbours, each once.
+    pub(crate) fn edges(&self) -> &[(u32, u32, u64)]
+        ensures edges { result.now ≡ self.now.edges }
+        ensures pairs { All (IsPair (unit_count self.now)) result.now }
+        ensures lengths { All (λ edge. IsLength self.now edge.2) result.now }
+        ensures few { length result.now ≤ 1000000 }
+        ensures valid { IsValid self.now }
+    {
+        self.parts.edges.as_slice()
+    }
+
+    /// The units that hold a feature, with their amounts.
+    #[inline]
+    pub(crate) fn holders(&self, feature: u32) -> &[(u32, u64)]
+        requires { feature < feature_count self.now }
+        ensures holders { result.now ≡ holders_of self.now.amounts feature }
+        ensures in_range { All (λ holder. holder.0 < unit_count self.now) result.now }
+        ensures valid { IsValid self.now }
+    {
+        self.holders.at(feature as usize)
+    }
+
+    /// What an amount of a row's feature counts for the row in a zone.
+    #[inline]
+    pub(crate) fn gain_from(&self, t: u32, amount: u64, zone: u8) -> u64
+        requires row { t < row_count self.now }
+        requires zone { zone < zone_count self.now }
+        requires fits { gain_from self.now t amount zone ≤ 10 ^ 18 }
+        ensures { result ≡ gain_from self.now t amount zone }
+    {
+        let target = self.target(t);
+        match target.zone {
+            Some(own) => if zone == own { amount } else { 0 },
+            None => by_millionths(amount, self.fraction(zone, target.feature)),
+        }
+    }
+}
+
+/// Where a zone stands in a list of zones, or the list's length.
+#[inline]
+fn place_of(zones: &[u8], zone: u8) -> usize
+    ensures { result ≡ position_or_len (λ k. k == zone) zones.now }
+{
+    for (place, k) in zones.iter().enumerate() {
+        if *k == zone {
+            return place;
+        }
+    }
+    zones.len()
+}

@@ -1,0 +1,34 @@
+//! Products that are rounded: by a number of millionths, and by the part of a level.
+ghost use Rattle.std.specs.Prelude.{◌≡◌, ◌<◌, ◌≤◌, ◌*◌, ◌^◌};
+ghost use Rattle.mz_num.specs.Round.{round};
+
+use mz_num::round_half;
+
+/// `amount` by a number of millionths, rounded half up: a division by a constant, in 64 bits where
+/// the product fits.
+#[inline]
+pub fn by_millionths(amount: u64, millionths: u64) -> u64
+    requires { round (amount * millionths) 1000000 ≤ 10 ^ 18 }
+    ensures { result ≡ round (amount * millionths) 1000000 }
+{
+    match amount.checked_mul(millionths) {
+        Some(product) if product <= u64::MAX - 500_000 => (product + 500_000) / 1_000_000,
+        _ => ((amount as u128 * millionths as u128 + 500_000) / 1_000_000) as u64,
+    }
+}
+
+/// `weight` by `missing / level`, rounded half up, in 64 bits where the product fits.
+#[inline]
+pub fn part_of(weight: u64, missing: u64, level: u64) -> u64
+    requires weight { weight ≤ 10 ^ 18 }
+    requires level { level ≤ 10 ^ 18 }
+    requires some_level { 0 < level }
+    requires part { missing ≤ level }
+    ensures part { result ≡ round (weight * missing) level }
+    ensures small { result ≤ 10 ^ 18 }
+{
+    match weight.checked_mul(missing) {
+        Some(product) if product <= (u64::MAX - level) / 2 => (2 * product + level) / (2 * level),
+        _ => round_half(weight as u128 * missing as u128, level as u128) as u64,
+    }
+}
