@@ -1,0 +1,11 @@
+mod EndingLemmas
+mod HistoryLemmas
+mod PerformedLemmas
+mod PlainParamsLemmas
+mod PlainProblemLemmas
+mod PlainTextLemmas
+mod PlainUnitsLemmas
+mod ReadingLemmas
+mod StartLemmas
+mod TextLemmas
+mod WorkLemmas

@@ -1,0 +1,11 @@
+use Rattle.mz_run.proofs.WorkLemmas.{runs_whole, answers_accepted, completes_accepted}
+use Rattle.mz_run.proofs.program.marzone.Goals as goal
+
+pub returns-in-Ok-clause-runs : goal.returns-in-Ok-clause-runs
+returns-in-Ok-clause-runs g c = runs_whole _ _ _ _ _ c.in-Ok.job c.run_job.result c.in-Ok.ensures.ends c.run_job.ensures
+
+pub returns-in-Ok-clause-answers : goal.returns-in-Ok-clause-answers
+returns-in-Ok-clause-answers g c = answers_accepted _ c.args.chance _ _ _ c.in-Ok.job c.run_job.result c.in-Ok.ensures.ends c.run_job.ensures
+
+pub returns-in-Ok-clause-completes : goal.returns-in-Ok-clause-completes
+returns-in-Ok-clause-completes g c = completes_accepted _ _ c.args.chance _ _ _ c.in-Ok.job c.run_job.result c.in-Ok.ensures.ends c.run_job.ensures

@@ -1,0 +1,21 @@
+//! One entry of an annealing history.
+
+/// A decided proposal.
+#[derive(Clone, Copy, Debug, PartialEq, Eq)]
+pub struct Entry {
+    /// The seat of the worker whose draw it is.
+    pub seat: u8,
+    /// The number of the draw among the seat's, from 0.
+    pub number: u64,
+    /// The place of the moved unit.
+    pub unit: u32,
+    /// The zone before the move.
+    pub old: u8,
+    /// The zone after the move.
+    pub new: u8,
+    /// The word of the acceptance.
+    pub word: u32,
+    /// The change of the whole score by the move, in ten-thousandths.
+    pub change: i128,
+    pub accepted: bool,
+}

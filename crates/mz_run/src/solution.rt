@@ -1,0 +1,91 @@
+//! The solution text of a plan.
+ghost use Rattle.std.specs.Prelude.{◌≡◌, ◌++◌, ◌<◌, IfOk, OnOk};
+ghost use Rattle.std.specs.List.{concat};
+ghost use Rattle.mz_model.specs.Parts.{unit_count};
+ghost use Rattle.mz_model.specs.Places.{list_below};
+ghost use Rattle.mz_model.specs.Plans.{IsLegalPlan};
+ghost use Rattle.mz_model.specs.Scores.{score_of_plan};
+ghost use Rattle.mz_model.specs.Valid.{IsValid};
+ghost use Rattle.mz_run.specs.Solution.{amount_line, score_lines, shortfall_of_plan, solution_text, unit_line};
+
+use crate::text::{push_bytes, push_number};
+use mz_model::{Plan, Problem, Score, held, short};
+use mz_num::{NoMemory, write_ten4};
+use std::alloc::Global;
+
+/// The zone of each unit, and what the plan scores and misses.
+#[tactic(auto, unfolding(crate::specs::Solution::solution_text))]
+pub(crate) fn solution(
+    alloc: Global,
+    problem: &Problem,
+    plan: &Plan,
+    score: &Score,
+) -> Result<Vec<u8>, NoMemory>
+    requires legal { IsLegalPlan problem.now plan.now }
+    requires own_score { score.now ≡ score_of_plan problem.now plan.now }
+    ensures { IfOk result (λ text. text.items ≡ solution_text problem.now plan.now) }
+{
+    let mut text = Vec::from_slice(alloc, b"planning_unit,zone\n")?;
+    push_units(&mut text, problem, plan)?;
+    push_scores(alloc, &mut text, score, shortfall(problem, plan))?;
+    Ok(text)
+}
+
+fn push_units(text: &mut Vec<u8>, problem: &Problem, plan: &Plan) -> Result<(), NoMemory>
+    requires { IsLegalPlan problem.now plan.now }
+    ensures { OnOk result (text.new.items ≡ text.old.items ++ concat (list_below (unit_count problem.now) (unit_line problem.now plan.now))) }
+{
+    for unit in 0..problem.units() {
+        push_unit(text, problem, plan, unit)?;
+    }
+    Ok(())
+}
+
+fn push_unit(text: &mut Vec<u8>, problem: &Problem, plan: &Plan, unit: u32) -> Result<(), NoMemory>
+    requires legal { IsLegalPlan problem.now plan.now }
+    requires valid { IsValid problem.now }
+    requires in_range { unit < unit_count problem.now }
+    ensures { OnOk result (text.new.items ≡ text.old.items ++ unit_line problem.now plan.now unit) }
+{
+    push_number(text, u64::from(problem.unit_id(unit)))?;
+    push_bytes(text, b",")?;
+    push_number(text, u64::from(problem.zone_id(plan.zone(unit))))?;
+    push_bytes(text, b"\n")
+}
+
+fn push_amount(alloc: Global, text: &mut Vec<u8>, name: &str, amount: u128) -> Result<(), NoMemory>
+    ensures { OnOk result (text.new.items ≡ text.old.items ++ amount_line name.now amount) }
+{
+    push_bytes(text, name.as_bytes())?;
+    push_bytes(text, b",")?;
+    write_ten4(alloc, amount, text)?;
+    push_bytes(text, b"\n")
+}
+
+fn push_scores(
+    alloc: Global,
+    text: &mut Vec<u8>,
+    score: &Score,
+    shortfall: u128,
+) -> Result<(), NoMemory>
+    ensures { OnOk result (text.new.items ≡ text.old.items ++ score_lines score.now shortfall) }
+{
+    push_amount(alloc, text, "score", score.total)?;
+    push_amount(alloc, text, "cost", score.cost)?;
+    push_amount(alloc, text, "boundary", score.boundary)?;
+    push_amount(alloc, text, "penalty", score.penalty)?;
+    push_amount(alloc, text, "shortfall", shortfall)
+}
+
+/// The shortfall of all target rows.
+#[tactic(auto, unfolding(crate::specs::Solution::shortfall_of_plan))]
+fn shortfall(problem: &Problem, plan: &Plan) -> u128
+    requires { IsLegalPlan problem.now plan.now }
+    ensures { result ≡ shortfall_of_plan problem.now plan.now }
+{
+    let mut sum = 0;
+    for row in 0..problem.targets() {
+        sum += u128::from(short(problem, row, held(problem, plan, row)));
+    }
+    sum
+}

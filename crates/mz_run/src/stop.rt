@@ -1,0 +1,67 @@
+//! Acts on a shelf, which the first fault ends.
+ghost use Rattle.std.specs.Prelude.{◌≡◌, ◌∷◌, [], IfOk, string_bytes};
+ghost use Rattle.mz_shelf.specs.Act.Act.{Say, Write};
+ghost use Rattle.mz_run.specs.Performed.{Performed};
+
+use mz_num::{NoMemory, Text};
+use mz_shelf::{Shelf, ShelfErr};
+use std::alloc::Global;
+
+/// Why a chain of acts ended early.
+#[derive(Debug, Drop)]
+pub(crate) enum Stop {
+    /// A call on this name failed.
+    Fault(Text),
+    NoMemory,
+}
+
+impl From<NoMemory> for Stop {
+    ghost use Rattle.std.specs.Prelude.{◌≡◌};
+    ghost use Rattle.mz_run.specs.declared.stop.Stop.TheVariants.{NoMemory as NoMemoryStop};
+
+    ghost from_gives = { λ _ stop. stop ≡ NoMemoryStop };
+
+    fn from(_error: NoMemory) -> Stop {
+        Stop::NoMemory
+    }
+}
+
+/// A text of its own with these bytes.
+pub(crate) fn text_of(alloc: Global, bytes: &str) -> Result<Text, NoMemory>
+    ensures { IfOk result (λ text. text ≡ bytes.now) }
+{
+    Ok(Text::new(String::from_str(alloc, bytes)?))
+}
+
+/// Says a text.
+pub(crate) fn say<S: Shelf>(alloc: Global, shelf: &mut S, text: &[u8]) -> Result<(), Stop>
+    ensures { Performed (Say text.now ∷ []) (S.state shelf.old) (S.state shelf.new) result }
+{
+    // The name comes first: want of memory for it must not come after a part was said.
+    let name = text_of(alloc, "-")?;
+    match shelf.say(alloc, text) {
+        Ok(()) => Ok(()),
+        Err(ShelfErr::Failed) => Err(Stop::Fault(name)),
+        Err(ShelfErr::NoMemory) => Err(Stop::NoMemory),
+        Err(ShelfErr::Absent) => unreachable!(),
+        Err(ShelfErr::TooLong) => unreachable!(),
+    }
+}
+
+/// Writes a file.
+pub(crate) fn write<S: Shelf>(
+    alloc: Global,
+    shelf: &mut S,
+    file: Text,
+    bytes: &[u8],
+) -> Result<(), Stop>
+    ensures { Performed (Write file bytes.now ∷ []) (S.state shelf.old) (S.state shelf.new) result }
+{
+    match shelf.write_file(alloc, file.as_str(), bytes) {
+        Ok(()) => Ok(()),
+        Err(ShelfErr::Failed) => Err(Stop::Fault(file)),
+        Err(ShelfErr::NoMemory) => Err(Stop::NoMemory),
+        Err(ShelfErr::Absent) => unreachable!(),
+        Err(ShelfErr::TooLong) => unreachable!(),
+    }
+}
