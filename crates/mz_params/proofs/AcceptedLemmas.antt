@@ -11,7 +11,7 @@ use Rattle.mz_num.specs.declared.fault.NumFault.{NumFault}
 use Rattle.mz_num.specs.declared.fault.NumFault.TheVariants.{TooLarge}
 use Rattle.mz_params.specs.declared.value.Refusal.TheVariants.{LeftOut}
 use Rattle.mz_params.specs.declared.key.Key.{Key}
-use Rattle.mz_params.specs.declared.key.Key.TheVariants.{AvailableZone, Prop, MissLevel, NumReps, NumItns, NumTemp, SaveRun, SaveBest, SaveSummary, SaveTargMet, SaveSumSoln, SaveTurns, RandSeed, RunMode}
+use Rattle.mz_params.specs.declared.key.Key.TheVariants.{AvailableZone, Blm, CoolFac, Prop, MissLevel, NumReps, NumItns, NumTemp, SaveRun, SaveBest, SaveSummary, SaveTargMet, SaveSumSoln, SaveTurns, RandSeed, RunMode}
 use Rattle.mz_params.specs.declared.fault.ParamFault.{ParamFault}
 use Rattle.mz_params.specs.declared.params.Params.{Params}
 use Rattle.mz_params.specs.Entry.{Entry}
@@ -146,6 +146,7 @@ accepted_params entries missing limit =
       units = full p.units named.0;
       features_with_amounts = together p.features p.amounts named.1 named.2;
       available = (whole_at-range entries AvailableZone 1 (omega arith) (omega arith)).1;
+      blm = millionths_at-range entries Blm 0 (omega arith) (omega arith);
       prop = millionths_at-range entries Prop 0 (omega arith) (omega arith);
       miss_level = millionths_at-range entries MissLevel 1000000 (omega arith) (omega arith);
       seed = seed_of-range entries;
@@ -162,6 +163,7 @@ accepted_params entries missing limit =
       save_summed = (whole_at-range entries SaveSumSoln 0 (omega arith) (omega arith)).1;
       save_turns = (whole_at-range entries SaveTurns 0 (omega arith) (omega arith)).1;
       proposals = ltb-false 1000000000 (p.reps * p.iterations) limits.0;
+      cool_in_range = millionths_at-range entries CoolFac 1000000 (omega arith) (omega arith);
       cool = cooled p.start p.cool limits.1;
       turns = turned p.save_turns (p.reps * p.iterations) limits.2;
     }

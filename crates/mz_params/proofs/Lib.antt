@@ -1,5 +1,6 @@
 pub mod AcceptedLemmas
 pub mod FileLemmas
+mod FolderLemmas
 pub mod KeyLaws
 pub mod ReadLemmas
 pub mod ValueLemmas

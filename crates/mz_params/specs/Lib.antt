@@ -1,4 +1,5 @@
 pub mod Entry
+pub mod Folder
 pub mod Given
 pub mod KeyKind
 pub mod KeyName

@@ -60,6 +60,7 @@ pub record IsAccepted (p : Params) : Type 0 where
   pub units : p.units ≢ []
   pub features_with_amounts : is_some p.features ≡ is_some p.amounts
   pub available : p.available ≤ 2147483647
+  pub blm : p.blm ≤ 1000000000000000000
   pub prop : p.prop ≤ 1000000
   pub miss_level : p.miss_level ≤ 1000000
   pub seed : IfSome p.seed (λ s. s ≤ 2147483647)
@@ -76,5 +77,6 @@ pub record IsAccepted (p : Params) : Type 0 where
   pub save_summed : p.save_summed ≤ 3
   pub save_turns : p.save_turns ≤ 3
   pub proposals : p.reps * p.iterations ≤ 1000000000
+  pub cool_in_range : p.cool ≤ 1000000000000000000
   pub cool : IfSome p.start (λ start. p.cool ≤ 1000000)
   pub turns : p.save_turns ≢ 0 → p.reps * p.iterations ≤ 200000000

@@ -4,6 +4,7 @@
 
 mod fault;
 mod file;
+mod folder;
 mod given;
 mod key;
 mod kind;
@@ -13,5 +14,6 @@ mod value;
 mod word;
 
 pub use fault::ParamFault;
+pub use folder::file_in_folder;
 pub use key::{Key, key_name};
 pub use params::Params;
