@@ -1,6 +1,6 @@
 use Rattle.mz_model.specs.Examples.{three_zones}
 use Rattle.mz_model.proofs.ExampleLaws.{same_parts}
-use Rattle.mz_model.proofs.tests.make_three_zones.Goals as goal
+use Rattle.mz_model.proofs.tests.problems.make_three_zones.Goals as goal
 
 pub returns : goal.returns
 unfolding three_zones

@@ -1,7 +1,7 @@
 use Rattle.std.proofs.Common.{◌∙◌}
 use Rattle.mz_model.specs.Examples.{no_units}
 use Rattle.mz_model.proofs.ExampleLaws.{same_parts}
-use Rattle.mz_model.proofs.tests.make_no_units.Goals as goal
+use Rattle.mz_model.proofs.tests.problems.make_no_units.Goals as goal
 
 pub returns : goal.returns
 unfolding no_units
