@@ -1,0 +1,10 @@
+pub mod AnswerLemmas
+pub mod RowLemmas
+pub mod IdLemmas
+pub mod KeyedLemmas
+pub mod NamedLemmas
+pub mod UnitLemmas
+pub mod ZoneCostLemmas
+pub mod ZoneSetLemmas
+pub mod LockLemmas
+pub mod TermLemmas

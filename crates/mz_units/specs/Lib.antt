@@ -1,0 +1,11 @@
+pub mod Answer
+pub mod Columns
+pub mod Keyed
+pub mod Locks
+pub mod Named
+pub mod Rows
+pub mod Terms
+pub mod UnitRows
+pub mod Wanted
+pub mod ZoneCosts
+pub mod ZoneSets

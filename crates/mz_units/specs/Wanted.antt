@@ -1,0 +1,24 @@
+-- The columns of the files of zones, costs, units, zone costs, zone sets and locks.
+use Rattle.std.specs.Prelude.{ℕ, Bool, true, false, List, [], ◌∷◌, map, codes}
+use Rattle.mz_tables.specs.declared.wants.Want.{Want}
+
+-- a column by its name, and its other name, which is none where it is empty
+abbrev pub want : List ℕ → List ℕ → Bool → Want
+want name other needed = record { name = name; other = other; needed = needed }
+
+abbrev pub zone_columns : List Want
+zone_columns = want (codes "zoneid") (codes "id") true ∷ want (codes "zonename") (codes "name") false ∷ []
+
+abbrev pub cost_columns : List Want
+cost_columns = want (codes "costid") (codes "id") true ∷ want (codes "costname") (codes "name") true ∷ []
+
+-- a column of its name for each cost
+abbrev pub unit_columns : List (List ℕ) → List Want
+unit_columns names = want (codes "id") [] true ∷ map (λ name. want name [] true) names
+
+abbrev pub zone_cost_columns : List Want
+zone_cost_columns = want (codes "zoneid") [] true ∷ want (codes "costid") [] true ∷ want (codes "multiplier") [] true ∷ []
+
+-- the columns of zone sets and of locks
+abbrev pub unit_zone_columns : List Want
+unit_zone_columns = want (codes "puid") [] true ∷ want (codes "zoneid") [] true ∷ []
