@@ -1,0 +1,91 @@
+-- Laws of what stands round a reading's unit.
+use Rattle.std.proofs.Common.{◌≡◌, ℕ, ◌+◌, ◌-◌, ◌<◌, ◌≤◌, List, [], ◌∷◌, ◌++◌, length, get_or, ap, sym, ◌∙◌, subst, arith}
+use Rattle.std.specs.Prelude.{pos, ◌-ℤ◌, slice_index}
+use Rattle.std.proofs.lemmas.List.Elements.{All-get_or}
+use Rattle.mz_model.specs.declared.parts.Parts.{Parts}
+use Rattle.mz_model.specs.Boundary.{edge_term_of, neighbours_of}
+use Rattle.mz_model.specs.Parts.{unit_count, zone_count, outer_at}
+use Rattle.mz_model.specs.Places.{list_below, sum_below}
+use Rattle.mz_model.specs.Scores.{penalty_term_of}
+use Rattle.mz_model.specs.Targets.{gain_of, touched_rows, touches_of}
+use Rattle.mz_model.specs.Valid.{IsValid}
+use Rattle.mz_model.proofs.NeighbourLaws.{neighbours_of-in_range}
+use Rattle.mz_model.proofs.PlaceLaws.{length-list_below, list_below-more}
+use Rattle.mz_model.proofs.TouchLaws.{get_or-touches_of, length-touches_of}
+use Rattle.mz_model.proofs.ZoneLaws.{is_allowed-in_range}
+use Rattle.mz_delta.specs.declared.reading.Reading.{Reading}
+use Rattle.mz_delta.specs.Move.{boundary_around, moved_total, moved_totals, neighbour_term, penalty_around}
+use Rattle.mz_delta.specs.Reading.{IsWellFormed, neighbour_at}
+use Rattle.mz_delta.proofs.DifferenceLaws.{crosswise}
+
+-- the read zone of a neighbour is one of the problem
+pub neighbour-in_range : (parts : Parts) (reading : Reading) (neighbours : List (ℕ × ℕ)) (zones : List ℕ) (i : ℕ) → IsValid parts → IsWellFormed parts reading → neighbours ≡ neighbours_of parts reading.unit → zones ≡ reading.neighbours.items → i < length neighbours → get_or zones i 0 < zone_count parts
+neighbour-in_range parts reading neighbours zones i valid well e f h =
+    let inside : i < length (neighbours_of parts reading.unit) = subst (λ (ns : List (ℕ × ℕ)). i < length ns) e h in
+    let unit : neighbour_at parts reading.unit i < unit_count parts = All-get_or (λ (pair : ℕ × ℕ). pair.0 < unit_count parts) (neighbours_of parts reading.unit) i (0, 0) inside (neighbours_of-in_range parts reading.unit valid) in
+    subst (λ (zs : List ℕ). get_or zs i 0 < zone_count parts) (sym f) (is_allowed-in_range parts (neighbour_at parts reading.unit i) (get_or reading.neighbours.items i 0) valid unit (well.neighbours i inside))
+
+pub neighbour_term-is : (parts : Parts) (reading : Reading) (neighbours : List (ℕ × ℕ)) (zones : List ℕ) (zone i : ℕ) → neighbours ≡ neighbours_of parts reading.unit → zones ≡ reading.neighbours.items → edge_term_of parts (get_or neighbours i (0, 0)).1 zone (get_or zones i 0) ≡ neighbour_term parts reading zone i
+unfolding neighbour_term
+neighbour_term-is parts reading neighbours zones zone i e f =
+    ap (λ (ns : List (ℕ × ℕ)). edge_term_of parts (get_or ns i (0, 0)).1 zone (get_or zones i 0)) e
+    ∙ ap (λ (zs : List ℕ). edge_term_of parts (get_or (neighbours_of parts reading.unit) i (0, 0)).1 zone (get_or zs i 0)) f
+
+pub neighbours-all : (parts : Parts) (reading : Reading) (neighbours : List (ℕ × ℕ)) (i : ℕ) → i ≤ length neighbours → length neighbours ≤ i → neighbours ≡ neighbours_of parts reading.unit → i ≡ length (neighbours_of parts reading.unit)
+neighbours-all parts reading neighbours i h g e = omega (arith, ap length e)
+
+pub boundary_around-is : (parts : Parts) (reading : Reading) (zone i sum outer : ℕ) → i ≡ length (neighbours_of parts reading.unit) → sum ≡ sum_below i (neighbour_term parts reading zone) → outer ≡ edge_term_of parts (outer_at parts reading.unit) zone parts.available → sum + outer ≡ boundary_around parts reading zone
+unfolding boundary_around
+boundary_around-is parts reading zone i sum outer all terms last =
+    let whole : sum ≡ sum_below (length (neighbours_of parts reading.unit)) (neighbour_term parts reading zone) = terms ∙ ap (λ n. sum_below n (neighbour_term parts reading zone)) all in
+    omega arith
+
+-- the penalty of touched row i, of which so much is held
+abbrev pub touched_penalty : Parts → ℕ → List ℕ → ℕ → ℕ
+touched_penalty parts unit totals i = penalty_term_of parts (slice_index (touched_rows parts unit) i) (slice_index totals i)
+
+pub touched_penalty-is : (parts : Parts) (unit i : ℕ) (totals : List ℕ) (touches : List (ℕ × ℕ)) → touches ≡ touches_of parts unit → i < length touches → penalty_term_of parts (get_or touches i (0, 0)).0 (get_or totals i 0) ≡ touched_penalty parts unit totals i
+touched_penalty-is parts unit i totals touches e h =
+    let inside : i < length (touched_rows parts unit) = omega (arith, ap length e, length-touches_of parts unit) in
+    ap (λ (ts : List (ℕ × ℕ)). penalty_term_of parts (get_or ts i (0, 0)).0 (get_or totals i 0)) e
+    ∙ ap (λ (touch : ℕ × ℕ). penalty_term_of parts touch.0 (get_or totals i 0)) (get_or-touches_of parts unit i (0, 0) inside)
+
+pub touches-all : (parts : Parts) (unit i : ℕ) (touches : List (ℕ × ℕ)) → touches ≡ touches_of parts unit → i ≤ length touches → length touches ≤ i → i ≡ length (touched_rows parts unit)
+touches-all parts unit i touches e h g = omega (arith, ap length e, length-touches_of parts unit)
+
+-- a row of which as much is held has the same penalty
+pub touched_penalty-same : (parts : Parts) (unit i : ℕ) (old new : List ℕ) → get_or old i 0 ≡ get_or new i 0 → touched_penalty parts unit old i ≡ touched_penalty parts unit new i
+touched_penalty-same parts unit i old new e = ap (penalty_term_of parts (slice_index (touched_rows parts unit) i)) e
+
+-- two sums over some rows differ as those over all touched rows do
+pub penalty_around-change : (parts : Parts) (unit i before after : ℕ) (old new : List ℕ) → i ≡ length (touched_rows parts unit)
+    → after + sum_below i (touched_penalty parts unit old) ≡ before + sum_below i (touched_penalty parts unit new)
+    → pos after -ℤ pos before ≡ pos (penalty_around parts unit new) -ℤ pos (penalty_around parts unit old)
+unfolding penalty_around
+penalty_around-change parts unit i before after old new all change =
+    let rows : after + sum_below (length (touched_rows parts unit)) (touched_penalty parts unit old) ≡ before + sum_below (length (touched_rows parts unit)) (touched_penalty parts unit new) = subst (λ n. after + sum_below n (touched_penalty parts unit old) ≡ before + sum_below n (touched_penalty parts unit new)) all change in
+    crosswise (sum_below (length (touched_rows parts unit)) (touched_penalty parts unit new)) (sum_below (length (touched_rows parts unit)) (touched_penalty parts unit old)) after before (omega arith)
+
+-- one total more
+pub moved_totals-more : (parts : Parts) (reading : Reading) (zone i total gained lost : ℕ) (totals totals' held : List ℕ)
+    → totals ≡ list_below i (moved_total parts reading zone) → held ≡ reading.totals.items
+    → gained ≡ gain_of parts (slice_index (touched_rows parts reading.unit) i) reading.unit zone
+    → lost ≡ gain_of parts (slice_index (touched_rows parts reading.unit) i) reading.unit reading.zone
+    → total ≡ get_or held i 0 + gained - lost → totals' ≡ totals ++ total ∷ []
+    → totals' ≡ list_below (i + 1) (moved_total parts reading zone)
+unfolding moved_total
+moved_totals-more parts reading zone i total gained lost totals totals' held so_far read gain loss is pushed =
+    pushed ∙ ap (λ (xs : List ℕ). xs ++ total ∷ []) so_far
+    ∙ ap (λ n. list_below i (moved_total parts reading zone) ++ n ∷ [])
+    (is ∙ ap (λ (xs : List ℕ). get_or xs i 0 + gained - lost) read
+    ∙ ap (λ n. get_or reading.totals.items i 0 + n - lost) gain
+    ∙ ap (λ n. get_or reading.totals.items i 0 + gain_of parts (slice_index (touched_rows parts reading.unit) i) reading.unit zone - n) loss)
+    ∙ sym (list_below-more i (moved_total parts reading zone))
+
+pub moved_totals-is : (parts : Parts) (reading : Reading) (zone i : ℕ) (totals : List ℕ) → i ≡ length (touched_rows parts reading.unit) → totals ≡ list_below i (moved_total parts reading zone) → totals ≡ moved_totals parts reading zone
+unfolding moved_totals
+moved_totals-is parts reading zone i totals all so_far = so_far ∙ ap (λ n. list_below n (moved_total parts reading zone)) all
+
+pub length-moved_totals : (parts : Parts) (reading : Reading) (zone : ℕ) → length (moved_totals parts reading zone) ≡ length (touched_rows parts reading.unit)
+unfolding moved_totals
+length-moved_totals parts reading zone = length-list_below (length (touched_rows parts reading.unit)) (moved_total parts reading zone)

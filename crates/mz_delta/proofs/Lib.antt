@@ -1,0 +1,10 @@
+pub mod AroundLaws
+pub mod DifferenceLaws
+pub mod ExampleLaws
+pub mod JudgeLaws
+pub mod MoveLaws
+pub mod PairLaws
+pub mod ReadLaws
+pub mod RoomLaws
+pub mod RowLaws
+pub mod SumLaws

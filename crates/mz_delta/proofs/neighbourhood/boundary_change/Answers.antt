@@ -1,0 +1,46 @@
+use Rattle.std.proofs.Common.{◌≡◌, ◌+◌, ◌∙◌, ap, arith, rules}
+use Rattle.std.proofs.lemmas.Int.{to_z-of_z}
+use mir.Syntax.{w128}
+use mir.Val.{SFits}
+use Rattle.mz_model.specs.Boundary.{edge_term_of}
+use Rattle.mz_model.specs.Parts.{outer_at}
+use Rattle.mz_model.proofs.PlaceLaws.{sum_below-more}
+use Rattle.mz_model.proofs.ZoneLaws.{is_allowed-in_range}
+use Rattle.mz_delta.specs.Move.{boundary_around, neighbour_term}
+use Rattle.mz_delta.proofs.AroundLaws.{boundary_around-is, neighbour-in_range, neighbour_term-is, neighbours-all}
+use Rattle.mz_delta.proofs.DifferenceLaws.{same_difference}
+use Rattle.mz_delta.proofs.neighbourhood.boundary_change.Goals as goal
+
+pub edge_term-old_term-requires-clause-first : goal.edge_term-old_term-requires-clause-first
+edge_term-old_term-requires-clause-first c = is_allowed-in_range c.args.problem.now c.args.reading.now.unit c.args.reading.now.zone c.requires.valid c.requires.well_formed.unit c.requires.well_formed.zone
+
+pub edge_term-old_term-requires-clause-second : goal.edge_term-old_term-requires-clause-second
+edge_term-old_term-requires-clause-second c = neighbour-in_range c.args.problem.now c.args.reading.now c.neighbours-neighbours.result.now c.as_slice-zones.result.now c.loop-i.i c.requires.valid c.requires.well_formed c.neighbours-neighbours.ensures.pairs c.as_slice-zones.ensures c.loop-i-test.true
+
+pub edge_term-new_term-requires-clause-second : goal.edge_term-new_term-requires-clause-second
+edge_term-new_term-requires-clause-second c = neighbour-in_range c.args.problem.now c.args.reading.now c.neighbours-neighbours.result.now c.as_slice-zones.result.now c.loop-i.i c.requires.valid c.requires.well_formed c.neighbours-neighbours.ensures.pairs c.as_slice-zones.ensures c.loop-i-test.true
+
+pub loop-i-preserved : goal.loop-i-preserved
+loop-i-preserved c =
+    let old : c.edge_term-old_term.result ≡ neighbour_term c.args.problem.now c.args.reading.now c.args.reading.now.zone c.loop-i.i = c.edge_term-old_term.ensures.term ∙ neighbour_term-is c.args.problem.now c.args.reading.now c.neighbours-neighbours.result.now c.as_slice-zones.result.now c.args.reading.now.zone c.loop-i.i c.neighbours-neighbours.ensures.pairs c.as_slice-zones.ensures in
+    let new : c.edge_term-new_term.result ≡ neighbour_term c.args.problem.now c.args.reading.now c.args.zone c.loop-i.i = c.edge_term-new_term.ensures.term ∙ neighbour_term-is c.args.problem.now c.args.reading.now c.neighbours-neighbours.result.now c.as_slice-zones.result.now c.args.zone c.loop-i.i c.neighbours-neighbours.ensures.pairs c.as_slice-zones.ensures in
+    record {
+      before = omega (arith, c.loop-i.invariant.before, old, sum_below-more c.loop-i.i (neighbour_term c.args.problem.now c.args.reading.now c.args.reading.now.zone));
+      after = omega (arith, c.loop-i.invariant.after, new, sum_below-more c.loop-i.i (neighbour_term c.args.problem.now c.args.reading.now c.args.zone));
+      before_small = omega (arith, c.loop-i.invariant.before_small, c.edge_term-old_term.ensures.small);
+      after_small = omega (arith, c.loop-i.invariant.after_small, c.edge_term-new_term.ensures.small);
+    }
+
+pub edge_term-old_outer-requires-clause-first : goal.edge_term-old_outer-requires-clause-first
+edge_term-old_outer-requires-clause-first c = is_allowed-in_range c.args.problem.now c.args.reading.now.unit c.args.reading.now.zone c.requires.valid c.requires.well_formed.unit c.requires.well_formed.zone
+
+pub returns-clause-change : goal.returns-clause-change
+returns-clause-change c =
+    let fits : SFits w128 c.difference.result = search rules in
+    let all = neighbours-all c.args.problem.now c.args.reading.now c.neighbours-neighbours.result.now c.loop-i.i (omega arith) c.loop-i-test.false c.neighbours-neighbours.ensures.pairs in
+    to_z-of_z w128 c.difference.result fits ∙ c.difference.ensures.value
+    ∙ same_difference (c.loop-i.after + c.edge_term-new_outer.result) (c.loop-i.before + c.edge_term-old_outer.result) (boundary_around c.args.problem.now c.args.reading.now c.args.zone) (boundary_around c.args.problem.now c.args.reading.now c.args.reading.now.zone)
+    (boundary_around-is c.args.problem.now c.args.reading.now c.args.zone c.loop-i.i c.loop-i.after c.edge_term-new_outer.result all c.loop-i.invariant.after
+    (c.edge_term-new_outer.ensures.term ∙ ap (λ len. edge_term_of c.args.problem.now len c.args.zone c.available-available.result) c.outer-outer.ensures.length ∙ ap (edge_term_of c.args.problem.now (outer_at c.args.problem.now c.args.reading.now.unit) c.args.zone) c.available-available.ensures.zone))
+    (boundary_around-is c.args.problem.now c.args.reading.now c.args.reading.now.zone c.loop-i.i c.loop-i.before c.edge_term-old_outer.result all c.loop-i.invariant.before
+    (c.edge_term-old_outer.ensures.term ∙ ap (λ len. edge_term_of c.args.problem.now len c.args.reading.now.zone c.available-available.result) c.outer-outer.ensures.length ∙ ap (edge_term_of c.args.problem.now (outer_at c.args.problem.now c.args.reading.now.unit) c.args.reading.now.zone) c.available-available.ensures.zone))

@@ -1,0 +1,12 @@
+use Rattle.std.proofs.Common.{◌≡◌, ◌*◌, ◌^◌, ◌≤◌}
+use Rattle.mz_model.specs.Places.{sum_below}
+use Rattle.mz_delta.specs.Move.{neighbour_term}
+use Rattle.mz_delta.proofs.neighbourhood.boundary_change.Given as goal
+
+abbrev pub invariant-loop-i : goal.invariant-loop-i
+invariant-loop-i l = record {
+  before : l.before ≡ sum_below l.i (neighbour_term l.problem l.reading l.reading.zone);
+  after : l.after ≡ sum_below l.i (neighbour_term l.problem l.reading l.zone);
+  before_small : l.before ≤ l.i * 10 ^ 18;
+  after_small : l.after ≤ l.i * 10 ^ 18;
+}

@@ -1,0 +1,6 @@
+pub mod Examples
+pub mod Judged
+pub mod Move
+pub mod Reading
+pub mod Rooms
+pub mod WithRoom

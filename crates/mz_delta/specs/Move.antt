@@ -1,0 +1,35 @@
+-- The move of a reading's unit to a zone: what stands round the unit, in one of its zones.
+use Rattle.std.specs.Prelude.{ℕ, ◌+◌, ◌-◌, List, length, slice_index, slice_index_or, slice_set}
+use Rattle.mz_model.specs.declared.parts.Parts.{Parts}
+use Rattle.mz_model.specs.Boundary.{edge_term_of, neighbours_of}
+use Rattle.mz_model.specs.Parts.{outer_at}
+use Rattle.mz_model.specs.Places.{list_below, sum_below}
+use Rattle.mz_model.specs.Scores.{penalty_term_of}
+use Rattle.mz_model.specs.Targets.{gain_of, touched_rows}
+use Rattle.mz_delta.specs.declared.reading.Reading.{Reading}
+
+-- the plan with the unit in the zone
+abbrev pub moved : List ℕ → ℕ → ℕ → List ℕ
+moved zones unit zone = slice_set zones unit zone
+
+-- the term of a unit's pair with its neighbour i, the unit in the zone and the neighbour in the read one
+unfoldable pub neighbour_term : Parts → Reading → ℕ → ℕ → ℕ
+neighbour_term parts reading zone i = edge_term_of parts (slice_index_or (neighbours_of parts reading.unit) i (0, 0)).1 zone (slice_index reading.neighbours.items i)
+
+-- the boundary round a reading's unit in that zone: its pairs, and its outer length
+unfoldable pub boundary_around : Parts → Reading → ℕ → ℕ
+boundary_around parts reading zone = sum_below (length (neighbours_of parts reading.unit)) (neighbour_term parts reading zone) + edge_term_of parts (outer_at parts reading.unit) zone parts.available
+
+-- the penalty of the rows that a unit touches, of which so much is held
+unfoldable pub penalty_around : Parts → ℕ → List ℕ → ℕ
+penalty_around parts unit totals = sum_below (length (touched_rows parts unit)) (λ i. penalty_term_of parts (slice_index (touched_rows parts unit) i) (slice_index totals i))
+
+-- what is held for touched row i once the reading's unit has the zone: the gain there more, and the gain in the read
+-- zone less
+unfoldable pub moved_total : Parts → Reading → ℕ → ℕ → ℕ
+moved_total parts reading zone i =
+    let row = slice_index (touched_rows parts reading.unit) i in
+    slice_index reading.totals.items i + gain_of parts row reading.unit zone - gain_of parts row reading.unit reading.zone
+
+unfoldable pub moved_totals : Parts → Reading → ℕ → List ℕ
+moved_totals parts reading zone = list_below (length (touched_rows parts reading.unit)) (moved_total parts reading zone)

@@ -1,0 +1,302 @@
+ghost use Rattle.std.specs.Prelude.{◌≡◌, ◌<◌, ◌∷◌, [], IfOk, IfSome};
+ghost use Rattle.mz_model.specs.Examples.{three_units, three_zones};
+ghost use Rattle.mz_model.specs.Parts.{unit_count};
+ghost use Rattle.mz_model.specs.Plans.{IsLegalPlan};
+ghost use Rattle.mz_delta.specs.Examples.{lone_unit};
+ghost use Rattle.mz_delta.specs.Reading.{IsWellFormed};
+
+use super::*;
+use mz_draw::Draw;
+use mz_model::{Parts, Plan, Problem, Target};
+use mz_num::{Items, NoMemory};
+use std::alloc::Global;
+use std::test::Fail;
+
+/// A list of its own.
+fn list<T: Copy>(alloc: Global, items: &[T]) -> Result<Items<T>, NoMemory>
+    ensures { IfOk result (λ list. list ≡ items.now) }
+{
+    Ok(Items::new(Vec::from_slice(alloc, items)?))
+}
+
+fn one_name(alloc: Global) -> Result<Items<Items<u8>>, NoMemory>
+    ensures { IfOk result (λ names. names ≡ (102 ∷ []) ∷ []) }
+{
+    let mut names = Vec::new(alloc);
+    names.push(list(alloc, b"f")?)?;
+    Ok(Items::new(names))
+}
+
+const ANYWHERE: Target = Target {
+    feature: 0,
+    zone: None,
+    level: 40_000,
+    weight: 600_000,
+};
+
+fn make_three_units(alloc: Global) -> Result<Parts, NoMemory>
+    ensures { IfOk result (λ parts. parts ≡ three_units) }
+{
+    let unit_ids = list(alloc, &[1, 2, 3])?;
+    let zone_ids = list(alloc, &[1, 2])?;
+    let feature_ids = list(alloc, &[1])?;
+    let names = one_name(alloc)?;
+    let allowed = list(alloc, &[3, 3, 3])?;
+    let costs = list(alloc, &[0, 100_000, 0, 200_000, 0, 300_000])?;
+    let rates = list(alloc, &[0, 1_000_000, 1_000_000, 0])?;
+    let edges = list(alloc, &[(0, 1, 50_000), (1, 2, 70_000)])?;
+    let outer = list(alloc, &[20_000, 0, 0])?;
+    let targets = list(alloc, &[ANYWHERE])?;
+    let amounts = list(alloc, &[(0, 0, 20_000), (1, 0, 30_000), (2, 0, 40_000)])?;
+    let fractions = list(alloc, &[0, 1_000_000])?;
+    Ok(Parts {
+        unit_ids,
+        zone_ids,
+        feature_ids,
+        names,
+        available: 0,
+        allowed,
+        costs,
+        rates,
+        edges,
+        outer,
+        targets,
+        amounts,
+        fractions,
+    })
+}
+
+fn make_three_zones(alloc: Global) -> Result<Parts, NoMemory>
+    ensures { IfOk result (λ parts. parts ≡ three_zones) }
+{
+    let in_last = Target {
+        feature: 0,
+        zone: Some(2),
+        level: 40_000,
+        weight: 600_000,
+    };
+    let unit_ids = list(alloc, &[1, 2, 3])?;
+    let zone_ids = list(alloc, &[1, 2, 3])?;
+    let feature_ids = list(alloc, &[1])?;
+    let names = one_name(alloc)?;
+    let allowed = list(alloc, &[7, 7, 7])?;
+    let costs = list(
+        alloc,
+        &[
+            0, 100_000, 100_000, 0, 200_000, 200_000, 0, 300_000, 300_000,
+        ],
+    )?;
+    let rates = list(
+        alloc,
+        &[
+            0, 1_000_000, 1_000_000, 1_000_000, 0, 1_000_000, 1_000_000, 1_000_000, 0,
+        ],
+    )?;
+    let edges = list(alloc, &[(0, 1, 50_000), (1, 2, 70_000)])?;
+    let outer = list(alloc, &[20_000, 0, 0])?;
+    let targets = list(alloc, &[ANYWHERE, in_last])?;
+    let amounts = list(alloc, &[(0, 0, 20_000), (1, 0, 30_000), (2, 0, 40_000)])?;
+    let fractions = list(alloc, &[0, 500_000, 1_000_000])?;
+    Ok(Parts {
+        unit_ids,
+        zone_ids,
+        feature_ids,
+        names,
+        available: 0,
+        allowed,
+        costs,
+        rates,
+        edges,
+        outer,
+        targets,
+        amounts,
+        fractions,
+    })
+}
+
+fn make_lone_unit(alloc: Global) -> Result<Parts, NoMemory>
+    ensures { IfOk result (λ parts. parts ≡ lone_unit) }
+{
+    let unit_ids = list(alloc, &[1])?;
+    let zone_ids = list(alloc, &[1, 2])?;
+    let feature_ids = list(alloc, &[])?;
+    let names = Items::new(Vec::new(alloc));
+    let allowed = list(alloc, &[3])?;
+    let costs = list(alloc, &[0, 100_000])?;
+    let rates = list(alloc, &[0, 1_000_000, 1_000_000, 0])?;
+    let edges = list(alloc, &[])?;
+    let outer = list(alloc, &[0])?;
+    let targets = list(alloc, &[])?;
+    let amounts = list(alloc, &[])?;
+    let fractions = list(alloc, &[])?;
+    Ok(Parts {
+        unit_ids,
+        zone_ids,
+        feature_ids,
+        names,
+        available: 0,
+        allowed,
+        costs,
+        rates,
+        edges,
+        outer,
+        targets,
+        amounts,
+        fractions,
+    })
+}
+
+fn build_three_units(alloc: Global) -> Result<Problem, NoMemory> {
+    let parts = make_three_units(alloc)?;
+    Problem::build(alloc, parts)
+}
+
+fn build_three_zones(alloc: Global) -> Result<Problem, NoMemory> {
+    let parts = make_three_zones(alloc)?;
+    Problem::build(alloc, parts)
+}
+
+fn build_lone_unit(alloc: Global) -> Result<Problem, NoMemory> {
+    let parts = make_lone_unit(alloc)?;
+    Problem::build(alloc, parts)
+}
+
+/// What a judged move says: the differences of cost, boundary and penalty, their sum, and the
+/// sum of the totals after it.
+type Said = (i128, i128, i128, i128, u64);
+
+fn said(judged: &Judged) -> Said {
+    let mut sum: u64 = 0;
+    for total in judged.totals.as_slice() {
+        sum = sum.saturating_add(*total);
+    }
+    (
+        judged.cost,
+        judged.boundary,
+        judged.penalty,
+        judged.change,
+        sum,
+    )
+}
+
+fn plan_of(alloc: Global, problem: &Problem, zones: &[u8]) -> Option<Plan>
+    ensures { IfSome result (λ plan. IsLegalPlan problem.now plan) }
+{
+    match Plan::of(alloc, problem, zones) {
+        Ok(plan) => Some(plan),
+        Err(_) => None,
+    }
+}
+
+/// A reading of a unit of that plan, for the seat 4 and with the front 17.
+fn reading_of(alloc: Global, problem: &Problem, zones: &[u8], unit: u32) -> Option<Reading>
+    requires { unit < unit_count problem.now }
+    ensures { IfSome result (λ reading. IsWellFormed problem.now reading × (reading.unit ≡ unit)) }
+{
+    let plan = plan_of(alloc, problem, zones)?;
+    let totals = totals_of(alloc, problem, &plan).ok()?;
+    let mut reading = Reading::room(alloc, problem).ok()?;
+    reading.seat = 4;
+    reading.front = 17;
+    read_plan(problem, &plan, totals.as_slice(), unit, &mut reading);
+    Some(reading)
+}
+
+/// The move of a unit to a zone, judged by a reading of that plan.
+fn by_zone(alloc: Global, problem: &Problem, zones: &[u8], unit: u32, zone: u8) -> Option<Said> {
+    if unit >= problem.units() || !problem.is_allowed(unit, zone) {
+        return None;
+    }
+    let reading = reading_of(alloc, problem, zones, unit)?;
+    let mut judged = Judged::room(alloc, problem).ok()?;
+    judge_zone(problem, &reading, zone, &mut judged);
+    Some(said(&judged))
+}
+
+/// The reading's seat, the draw's number, unit and word, and the two zones of the move.
+type Named = (u8, u64, u32, u8, u8, u32);
+
+/// The move that a draw gives, judged by a reading of that plan.
+fn by_draw(alloc: Global, problem: &Problem, zones: &[u8], draw: Draw) -> Option<(Named, Said)> {
+    if draw.unit >= problem.units() {
+        return None;
+    }
+    let reading = reading_of(alloc, problem, zones, draw.unit)?;
+    let mut judged = Judged::room(alloc, problem).ok()?;
+    judge(problem, &reading, draw, &mut judged);
+    let named = (
+        judged.seat,
+        judged.number,
+        judged.unit,
+        judged.old,
+        judged.new,
+        judged.word,
+    );
+    Some((named, said(&judged)))
+}
+
+/// The move of a unit back to its zone of that plan, judged by a reading whose totals are those of
+/// the plan, but in which the unit has another zone: no plan agrees with it.
+fn by_stale(alloc: Global, problem: &Problem, zones: &[u8], unit: u32, zone: u8) -> Option<Said> {
+    if unit >= problem.units() || !problem.is_allowed(unit, zone) {
+        return None;
+    }
+    let mut reading = reading_of(alloc, problem, zones, unit)?;
+    let mut judged = Judged::room(alloc, problem).ok()?;
+    let old = reading.zone;
+    reading.zone = zone;
+    judge_zone(problem, &reading, old, &mut judged);
+    Some(said(&judged))
+}
+
+#[test]
+fn a_draw_meets_the_target(rt: HostRuntime) -> Result<(), Fail> {
+    let problem = build_three_units(rt.alloc())?;
+    let draw = Draw {
+        number: 9,
+        unit: 2,
+        shift: 1,
+        word: 77,
+    };
+    let named = (4, 9, 2, 0, 1, 77);
+    let said = (300_000, 70_000, -600_000, -230_000, 40_000);
+    assert_eq!(rt;
+        by_draw(rt.alloc(), &problem, &[0, 0, 0], draw),
+        Some((named, said))
+    );
+    Ok(())
+}
+
+#[test]
+fn the_second_unit_joins_the_first(rt: HostRuntime) -> Result<(), Fail> {
+    let problem = build_three_units(rt.alloc())?;
+    let said = (200_000, 20_000, -300_000, -80_000, 50_000);
+    assert_eq!(rt; by_zone(rt.alloc(), &problem, &[1, 0, 0], 1, 1), Some(said));
+    Ok(())
+}
+
+#[test]
+fn both_rows_of_three_zones_are_met(rt: HostRuntime) -> Result<(), Fail> {
+    let problem = build_three_zones(rt.alloc())?;
+    let said = (300_000, 0, -375_000, -75_000, 135_000);
+    assert_eq!(rt; by_zone(rt.alloc(), &problem, &[2, 1, 0], 2, 2), Some(said));
+    Ok(())
+}
+
+#[test]
+fn a_lone_unit_costs_its_cost(rt: HostRuntime) -> Result<(), Fail> {
+    let problem = build_lone_unit(rt.alloc())?;
+    assert_eq!(rt;
+        by_zone(rt.alloc(), &problem, &[0], 0, 1),
+        Some((100_000, 0, 0, 100_000, 0))
+    );
+    Ok(())
+}
+
+#[test]
+fn a_reading_without_a_plan_is_judged(rt: HostRuntime) -> Result<(), Fail> {
+    let problem = build_three_units(rt.alloc())?;
+    let said = by_stale(rt.alloc(), &problem, &[0, 0, 0], 2, 1);
+    assert_eq!(rt; said.map_or(1, |said| said.4), 0);
+    Ok(())
+}
