@@ -1,0 +1,14 @@
+pub mod SeenLemmas
+pub mod ViewLemmas
+pub mod FitLemmas
+pub mod TryLemmas
+pub mod ChairLemmas
+pub mod WaitLemmas
+pub mod CountLemmas
+pub mod TurnLemmas
+pub mod BackLemmas
+pub mod NoteLemmas
+pub mod OpeningLemmas
+pub mod CloseLemmas
+pub mod CrossingLemmas
+pub mod FreshLemmas
