@@ -1,0 +1,7 @@
+pub mod ReadLemmas
+mod PairLemmas
+mod CostLemmas
+mod AreaLemmas
+mod MultiplierLemmas
+mod PartLemmas
+mod SetLemmas

@@ -1,0 +1,269 @@
+//! The zones, the costs, the units, and what the zones multiply the costs by.
+ghost use Rattle.std.specs.Prelude.{◌≡◌, ◌<◌, ◌≤◌, ◌+◌, ◌^◌, ◌++◌, if◌then◌else◌, IfOk, OnOk, length, replicate};
+ghost use Rattle.std.specs.List.{All};
+ghost use Rattle.mz_units.specs.Named.{IsNamedList, costs_of, zones_of};
+ghost use Rattle.mz_units.specs.UnitRows.{IsUnitList, units_of};
+ghost use Rattle.mz_units.specs.Wanted.{cost_columns, unit_columns, zone_columns, zone_cost_columns};
+ghost use Rattle.mz_units.specs.ZoneCosts.{AreMultipliers, multipliers_of};
+ghost use Rattle.mz_project.specs.Area.{area_read, available_place, costs_read, default_costs as costs_by_default, default_multiplier, default_multipliers as multipliers_by_default, default_zones as zones_by_default, multipliers_read, units_read, zones_read};
+ghost use Rattle.mz_project.specs.Fits.{FitsArea};
+ghost use Rattle.mz_project.specs.ReadAs.{ReadAs, TakenAs};
+ghost use Rattle.mz_project.specs.Reads.{of_rows, rows_read};
+ghost use Rattle.mz_project.specs.declared.fault.Which.TheVariants as file;
+
+use crate::fault::{ReadFault, Which, param_fault, row_fault};
+use crate::file::read_table;
+use mz_num::{Items, NoMemory};
+use mz_params::{Key, ParamFault, Params};
+use mz_shelf::Shelf;
+use mz_tables::{Ids, Table};
+use mz_units::{
+    CostList, UnitList, ZoneList, read_costs, read_units, read_zone_costs, read_zones, wants_costs,
+    wants_units, wants_zone_costs, wants_zones,
+};
+use std::alloc::Global;
+
+/// What the files up to that of the zone costs give.
+#[derive(Drop)]
+pub(crate) struct Area {
+    pub(crate) zones: ZoneList,
+    /// The place of the available zone.
+    pub(crate) available: u8,
+    pub(crate) costs: CostList,
+    pub(crate) units: UnitList,
+    /// In millionths, at `zone * costs + cost`.
+    pub(crate) multipliers: Items<u64>,
+}
+
+/// Reads the files of zones, costs, units and zone costs, in this order, as far as they are given.
+#[tactic(auto, unfolding(crate::specs::Area::area_read))]
+pub(crate) fn read_area<S: Shelf>(
+    alloc: Global,
+    shelf: &mut S,
+    params: &Params,
+) -> Result<Area, ReadFault>
+    ensures read { ReadAs (area_read params.now) (S.state shelf.old) (S.state shelf.new) result }
+    ensures fit { IfOk result FitsArea }
+{
+    let zones = zones(alloc, shelf, params)?;
+    let available = available_zone(params, &zones)?;
+    let costs = costs(alloc, shelf, params)?;
+    let units = units(alloc, shelf, params, &costs)?;
+    let multipliers = multipliers(alloc, shelf, params, &zones, available, &costs)?;
+    Ok(Area {
+        zones,
+        available,
+        costs,
+        units,
+        multipliers,
+    })
+}
+
+/// The zones of the file, or an available and a reserved one without a file.
+fn zones<S: Shelf>(alloc: Global, shelf: &mut S, params: &Params) -> Result<ZoneList, ReadFault>
+    ensures read { ReadAs (zones_read params.now) (S.state shelf.old) (S.state shelf.new) result }
+    ensures fit { IfOk result (λ zones. IsNamedList zones.ids zones.names) }
+{
+    match &params.zones {
+        Some(name) => {
+            let wants = wants_zones(alloc)?;
+            let folder = params.input_dir.as_str();
+            let table = read_table(alloc, shelf, folder, name.as_str(), Which::Zones, &wants)?;
+            zones_in(alloc, &table)
+        }
+        None => Ok(default_zones(alloc)?),
+    }
+}
+
+fn zones_in(alloc: Global, table: &Table) -> Result<ZoneList, ReadFault>
+    requires { All (λ row. length row ≡ 2) table.now }
+    ensures taken { TakenAs (of_rows file.Zones (zones_of table.now)) result }
+    ensures fit { IfOk result (λ zones. IsNamedList zones.ids zones.names) }
+{
+    match read_zones(alloc, table) {
+        Ok(zones) => Ok(zones),
+        Err(fault) => Err(row_fault(Which::Zones, fault)),
+    }
+}
+
+fn default_zones(alloc: Global) -> Result<ZoneList, NoMemory>
+    ensures zones { IfOk result (λ zones. zones ≡ zones_by_default) }
+    ensures fit { IfOk result (λ zones. IsNamedList zones.ids zones.names) }
+{
+    let mut ids = Ids::new(alloc)?;
+    ids.add(alloc, 1)?;
+    ids.add(alloc, 2)?;
+    let mut names = Vec::new(alloc);
+    names.push(name_of(alloc, b"available")?)?;
+    names.push(name_of(alloc, b"reserved")?)?;
+    Ok(ZoneList {
+        ids,
+        names: Items::new(names),
+    })
+}
+
+fn name_of(alloc: Global, name: &[u8]) -> Result<Items<u8>, NoMemory>
+    ensures { IfOk result (λ items. items ≡ name.now) }
+{
+    Ok(Items::new(Vec::from_slice(alloc, name)?))
+}
+
+/// The place of the zone that AVAILABLEZONE names.
+fn available_zone(params: &Params, zones: &ZoneList) -> Result<u8, ReadFault>
+    requires { length zones.now.ids ≤ 60 }
+    ensures taken { TakenAs (available_place params.now zones.now) result }
+    ensures within { IfOk result (λ available. available < length zones.now.ids) }
+{
+    match zones.ids.place(params.available) {
+        Some(place) => Ok(place as u8),
+        None => Err(param_fault(ParamFault::OutOfRange(Key::AvailableZone))),
+    }
+}
+
+/// The costs of the file, or one without a file.
+fn costs<S: Shelf>(alloc: Global, shelf: &mut S, params: &Params) -> Result<CostList, ReadFault>
+    ensures read { ReadAs (costs_read params.now) (S.state shelf.old) (S.state shelf.new) result }
+    ensures fit { IfOk result (λ costs. IsNamedList costs.ids costs.names) }
+{
+    match &params.costs {
+        Some(name) => {
+            let wants = wants_costs(alloc)?;
+            let folder = params.input_dir.as_str();
+            let table = read_table(alloc, shelf, folder, name.as_str(), Which::Costs, &wants)?;
+            costs_in(alloc, &table)
+        }
+        None => Ok(default_costs(alloc)?),
+    }
+}
+
+fn costs_in(alloc: Global, table: &Table) -> Result<CostList, ReadFault>
+    requires { All (λ row. length row ≡ 2) table.now }
+    ensures taken { TakenAs (of_rows file.Costs (costs_of table.now)) result }
+    ensures fit { IfOk result (λ costs. IsNamedList costs.ids costs.names) }
+{
+    match read_costs(alloc, table) {
+        Ok(costs) => Ok(costs),
+        Err(fault) => Err(row_fault(Which::Costs, fault)),
+    }
+}
+
+fn default_costs(alloc: Global) -> Result<CostList, NoMemory>
+    ensures costs { IfOk result (λ costs. costs ≡ costs_by_default) }
+    ensures fit { IfOk result (λ costs. IsNamedList costs.ids costs.names) }
+{
+    let mut ids = Ids::new(alloc)?;
+    ids.add(alloc, 1)?;
+    let mut names = Vec::new(alloc);
+    names.push(name_of(alloc, b"cost")?)?;
+    Ok(CostList {
+        ids,
+        names: Items::new(names),
+    })
+}
+
+/// The units of their file, which has a column for each cost.
+fn units<S: Shelf>(
+    alloc: Global,
+    shelf: &mut S,
+    params: &Params,
+    costs: &CostList,
+) -> Result<UnitList, ReadFault>
+    requires { IsNamedList costs.now.ids costs.now.names }
+    ensures read { ReadAs (units_read params.now costs.now) (S.state shelf.old) (S.state shelf.new) result }
+    ensures fit { IfOk result (IsUnitList (length costs.now.ids)) }
+{
+    let wants = wants_units(alloc, costs)?;
+    let folder = params.input_dir.as_str();
+    let name = params.units.as_str();
+    let table = read_table(alloc, shelf, folder, name, Which::Units, &wants)?;
+    units_in(alloc, &table, costs)
+}
+
+fn units_in(alloc: Global, table: &Table, costs: &CostList) -> Result<UnitList, ReadFault>
+    requires costs { IsNamedList costs.now.ids costs.now.names }
+    requires wide { All (λ row. length row ≡ length costs.now.names + 1) table.now }
+    ensures taken { TakenAs (of_rows file.Units (units_of table.now)) result }
+    ensures fit { IfOk result (IsUnitList (length costs.now.ids)) }
+{
+    match read_units(alloc, table, costs) {
+        Ok(units) => Ok(units),
+        Err(fault) => Err(row_fault(Which::Units, fault)),
+    }
+}
+
+/// The multipliers of the file; without a file each cost counts once outside the available zone.
+fn multipliers<S: Shelf>(
+    alloc: Global,
+    shelf: &mut S,
+    params: &Params,
+    zones: &ZoneList,
+    available: u8,
+    costs: &CostList,
+) -> Result<Items<u64>, ReadFault>
+    requires zones { length zones.now.ids ≤ 60 }
+    requires costs { length costs.now.ids ≤ 60 }
+    ensures read { ReadAs (multipliers_read params.now zones.now available costs.now) (S.state shelf.old) (S.state shelf.new) result }
+    ensures fit { IfOk result (AreMultipliers (length zones.now.ids) (length costs.now.ids)) }
+{
+    match &params.zone_costs {
+        Some(name) => {
+            let wants = wants_zone_costs(alloc)?;
+            let folder = params.input_dir.as_str();
+            let name = name.as_str();
+            let table = read_table(alloc, shelf, folder, name, Which::ZoneCosts, &wants)?;
+            multipliers_in(alloc, &table, &zones.ids, &costs.ids)
+        }
+        None => Ok(default_multipliers(alloc, zones.ids.len(), costs.ids.len(), available)?),
+    }
+}
+
+fn multipliers_in(
+    alloc: Global,
+    table: &Table,
+    zones: &Ids,
+    costs: &Ids,
+) -> Result<Items<u64>, ReadFault>
+    requires zones { length zones.now ≤ 60 }
+    requires costs { length costs.now ≤ 60 }
+    requires wide { All (λ row. length row ≡ 3) table.now }
+    ensures taken { TakenAs (of_rows file.ZoneCosts (multipliers_of zones.now costs.now table.now)) result }
+    ensures fit { IfOk result (AreMultipliers (length zones.now) (length costs.now)) }
+{
+    match read_zone_costs(alloc, table, zones, costs) {
+        Ok(multipliers) => Ok(Items::new(multipliers)),
+        Err(fault) => Err(row_fault(Which::ZoneCosts, fault)),
+    }
+}
+
+fn default_multipliers(
+    alloc: Global,
+    zones: u32,
+    costs: u32,
+    available: u8,
+) -> Result<Items<u64>, NoMemory>
+    requires zones { zones ≤ 60 }
+    requires costs { costs ≤ 60 }
+    ensures multipliers { IfOk result (λ multipliers. multipliers ≡ multipliers_by_default zones costs available) }
+    ensures fit { IfOk result (AreMultipliers zones costs) }
+{
+    let mut multipliers = Vec::new(alloc);
+    for zone in 0..zones {
+        push_multipliers(&mut multipliers, costs, zone == u32::from(available))?;
+    }
+    Ok(Items::new(multipliers))
+}
+
+/// The multipliers of a zone: 0 in the available zone, one in another.
+fn push_multipliers(
+    multipliers: &mut Vec<u64>,
+    costs: u32,
+    is_available: bool,
+) -> Result<(), NoMemory>
+    ensures { OnOk result (multipliers.new.items ≡ multipliers.old.items ++ replicate costs (if is_available then 0 else 10 ^ 6)) }
+{
+    let multiplier = if is_available { 0 } else { 1_000_000 };
+    for _cost in 0..costs {
+        multipliers.push(multiplier)?;
+    }
+    Ok(())
+}

@@ -1,0 +1,72 @@
+//! Input files, read from a shelf.
+ghost use Rattle.std.specs.Prelude.{◌≡◌, ◌≤◌, MatchResult, IfOk, length};
+ghost use Rattle.std.specs.List.{All};
+ghost use Rattle.mz_params.specs.Folder.{file_in};
+ghost use Rattle.mz_tables.specs.Table.{read_table as table_of_bytes};
+ghost use Rattle.mz_project.specs.ReadAs.{IsGiven, IsStopped, ReadAs, TakenAs};
+ghost use Rattle.mz_project.specs.Reads.{file_read, of_table, table_read};
+
+use crate::fault::{InputFault, ReadFault, Which, table_fault};
+use mz_num::{NoMemory, Text};
+use mz_params::file_in_folder;
+use mz_shelf::{Shelf, ShelfErr};
+use mz_tables::{Table, Wants};
+use std::alloc::Global;
+
+/// The bytes of an input file.
+pub(crate) fn read_bytes<S: Shelf>(
+    alloc: Global,
+    shelf: &mut S,
+    name: &str,
+    which: Which,
+) -> Result<Vec<u8>, ReadFault>
+    ensures read { MatchResult result
+        (λ bytes. IsGiven (λ files. file_read files name.now which) (S.state shelf.old) (S.state shelf.new) bytes.items)
+        (λ fault. IsStopped (λ files. file_read files name.now which) (S.state shelf.old) (S.state shelf.new) fault) }
+    ensures short { IfOk result (λ bytes. length bytes.items ≤ 268435456) }
+{
+    // The name comes first, so that want of memory for it leaves the shelf as it was.
+    let file = text_of(alloc, name)?;
+    match shelf.read_file(alloc, name) {
+        Ok(bytes) => Ok(bytes),
+        Err(ShelfErr::Failed) => Err(ReadFault::Shelf(file)),
+        Err(ShelfErr::Absent) => Err(ReadFault::Absent(file)),
+        Err(ShelfErr::TooLong) => Err(ReadFault::Input(InputFault::TooLong(which))),
+        Err(ShelfErr::NoMemory) => Err(ReadFault::NoMemory),
+    }
+}
+
+fn text_of(alloc: Global, bytes: &str) -> Result<Text, NoMemory>
+    ensures { IfOk result (λ text. text ≡ bytes.now) }
+{
+    Ok(Text::new(String::from_str(alloc, bytes)?))
+}
+
+/// The wanted columns of the file of that name in a folder.
+pub(crate) fn read_table<S: Shelf>(
+    alloc: Global,
+    shelf: &mut S,
+    folder: &str,
+    name: &str,
+    which: Which,
+    wants: &Wants,
+) -> Result<Table, ReadFault>
+    ensures read { ReadAs (λ files. table_read files (file_in folder.now name.now) which wants.now) (S.state shelf.old) (S.state shelf.new) result }
+    ensures wide { IfOk result (λ table. All (λ row. length row ≡ length wants.now) table) }
+{
+    let file = file_in_folder(alloc, folder, name)?;
+    let bytes = read_bytes(alloc, shelf, file.as_str(), which)?;
+    table_in(alloc, &bytes, which, wants)
+}
+
+/// The wanted columns of a file's bytes.
+fn table_in(alloc: Global, bytes: &[u8], which: Which, wants: &Wants) -> Result<Table, ReadFault>
+    requires { length bytes.now ≤ 268435456 }
+    ensures taken { TakenAs (of_table which (table_of_bytes bytes.now wants.now)) result }
+    ensures wide { IfOk result (λ table. All (λ row. length row ≡ length wants.now) table) }
+{
+    match Table::read(alloc, bytes, wants) {
+        Ok(table) => Ok(table),
+        Err(fault) => Err(table_fault(which, fault)),
+    }
+}

@@ -1,0 +1,18 @@
+//! The project that the input files give: the parameter file, and the problem of the files that it
+//! names. Files are read and understood one after another, and then the limits are tested.
+#![tactic(auto)]
+
+mod area;
+mod fault;
+mod file;
+mod limits;
+mod parameters;
+mod parts;
+mod project;
+mod sets;
+#[cfg(test)]
+mod tests;
+
+pub use fault::{InputFault, ReadFault, What, Which};
+pub use parameters::read_params;
+pub use project::read_project;

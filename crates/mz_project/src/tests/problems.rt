@@ -1,0 +1,92 @@
+//! What accepted projects are.
+use super::{UNITS, read, shelf_of};
+use std::alloc::Global;
+use std::test::Fail;
+
+/// The cost term of a unit in a zone, by place, in ten-thousandths.
+fn term_of(
+    alloc: Global,
+    lines: &str,
+    files: &[(&str, &str)],
+    unit: u32,
+    zone: u8,
+) -> Result<Option<u64>, Fail> {
+    let mut shelf = shelf_of(alloc, lines, files)?;
+    let Ok(problem) = read(alloc, &mut shelf) else {
+        return Ok(None);
+    };
+    if unit < problem.units() && zone < problem.zones() {
+        Ok(Some(problem.cost_of(unit, zone)))
+    } else {
+        Ok(None)
+    }
+}
+
+#[test]
+fn costs_are_weighed_by_zone(rt: HostRuntime) -> Result<(), Fail> {
+    let lines = "COSTSNAME c\nZONECOSTNAME m";
+    let costs = ("c", "costid,costname\n1,cost\n2,hire\n");
+    let units = ("pu.dat", "id,cost,hire\n1,10,4\n");
+    let table = [
+        ("zoneid,costid,multiplier\n2,1,0.5\n2,2,1\n", 0, 90_000),
+        ("zoneid,costid,multiplier\n2,1,0.333335\n", 0, 33_334),
+    ];
+    for (multipliers, in_first, in_second) in table {
+        let files = [costs, units, ("m", multipliers)];
+        assert_eq!(rt; term_of(rt.alloc(), lines, &files, 0, 0)?, Some(in_first));
+        assert_eq!(rt; term_of(rt.alloc(), lines, &files, 0, 1)?, Some(in_second));
+    }
+    Ok(())
+}
+
+#[test]
+fn a_unit_costs_nothing_in_the_available_zone(rt: HostRuntime) -> Result<(), Fail> {
+    let table = [("", 0, 100_000), ("AVAILABLEZONE 2", 100_000, 0)];
+    for (lines, in_first, in_second) in table {
+        assert_eq!(rt; term_of(rt.alloc(), lines, &[UNITS], 0, 0)?, Some(in_first));
+        assert_eq!(rt;
+            term_of(rt.alloc(), lines, &[UNITS], 0, 1)?,
+            Some(in_second)
+        );
+    }
+    Ok(())
+}
+
+/// How many units there are, and how many of them are free.
+fn counts(
+    alloc: Global,
+    lines: &str,
+    files: &[(&str, &str)],
+) -> Result<Option<(u32, usize)>, Fail> {
+    let mut shelf = shelf_of(alloc, lines, files)?;
+    match read(alloc, &mut shelf) {
+        Ok(problem) => Ok(Some((problem.units(), problem.free().len()))),
+        Err(_) => Ok(None),
+    }
+}
+
+#[test]
+fn locks_and_zone_sets_limit_units(rt: HostRuntime) -> Result<(), Fail> {
+    let table = [
+        ("", "", (3, 3)),
+        ("PULOCKNAME f", "puid,zoneid\n3,2\n", (3, 2)),
+        ("PUZONENAME f", "puid,zoneid\n1,2\n2,1\n2,2\n2,1\n", (3, 2)),
+        ("PULOCKNAME f", "puid,zoneid\n1,1\n2,1\n3,2\n", (3, 0)),
+    ];
+    for (lines, text, wanted) in table {
+        assert_eq!(rt;
+            counts(rt.alloc(), lines, &[UNITS, ("f", text)])?,
+            Some(wanted)
+        );
+    }
+    Ok(())
+}
+
+#[test]
+fn a_project_may_have_no_units(rt: HostRuntime) -> Result<(), Fail> {
+    assert_eq!(rt;
+        counts(rt.alloc(), "", &[("pu.dat", "id,cost\n")])?,
+        Some((0, 0))
+    );
+    Ok(())
+}
