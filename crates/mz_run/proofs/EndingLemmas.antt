@@ -1,7 +1,7 @@
 -- How acts and the refusal line end.
-use Rattle.std.proofs.Common.{◌≡◌, ℕ, List, [], ◌∷◌, Result, Ok, Err, refl, sym, ap, subst}
+use Rattle.std.proofs.Common.{◌≡◌, ℕ, List, [], ◌∷◌, Result, Ok, Err, sym, subst}
 use Rattle.std.specs.Result.{MatchResult}
-use Rattle.mz_shelf.specs.State.{State, KeepsCounts}
+use Rattle.mz_shelf.specs.State.{State}
 use Rattle.mz_shelf.specs.Act.{Act, name_of}
 use Rattle.mz_shelf.specs.Act.Act.{Say}
 use Rattle.mz_shelf.specs.declared.shelf.ShelfErr.{ShelfErr}
@@ -10,7 +10,7 @@ use Rattle.mz_shelf.specs.Shelf.{DidAct, ActFailed, ActStopped}
 use Rattle.mz_shelf.specs.Chain.{StoppedAt}
 use Rattle.mz_shelf.proofs.ChainLemmas.{StoppedAt-one}
 use Rattle.mz_run.specs.declared.status.Status.{Status}
-use Rattle.mz_run.specs.declared.input.InputFault.{InputFault}
+use Rattle.mz_project.specs.declared.fault.InputFault.{InputFault}
 use Rattle.mz_run.specs.declared.status.Status.TheVariants as status
 use Rattle.mz_run.specs.Ending.{SaysLine, Refuses}
 use Rattle.mz_run.specs.Ending.SaysLine.{said, failed, unsaid}

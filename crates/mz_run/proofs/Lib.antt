@@ -1,11 +1,7 @@
 mod EndingLemmas
 mod HistoryLemmas
 mod PerformedLemmas
-mod PlainParamsLemmas
-mod PlainProblemLemmas
-mod PlainTextLemmas
-mod PlainUnitsLemmas
-mod ReadingLemmas
+mod PreparedLemmas
 mod StartLemmas
 mod TextLemmas
 mod WorkLemmas

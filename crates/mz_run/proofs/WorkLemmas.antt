@@ -1,27 +1,27 @@
 -- The stages of the work, and the whole run of the program.
-use Rattle.std.proofs.Common.{◌≡◌, ℕ, Bool, true, false, cond, get_or, List, [], ◌∷◌, ◌++◌, length, Result, Ok, Err, Option, Some, None, refl, sym, ap, subst, ◌∙◌, rules}
+use Rattle.std.proofs.Common.{◌≡◌, ℕ, Bool, true, false, cond, get_or, List, [], ◌∷◌, ◌++◌, Result, Ok, Err, Option, Some, None, refl, sym, ap, subst, ◌∙◌}
 use Rattle.std.specs.Prelude.{◌==◌, if◌then◌else◌, IfSome}
-use Rattle.mz_shelf.specs.State.{State, Files, KeepsCounts, Rose}
+use Rattle.mz_shelf.specs.State.{State, Files, KeepsCounts}
 use Rattle.mz_shelf.specs.Act.{Act}
-use Rattle.mz_shelf.specs.Chain.{DidAll, StoppedAt, StoppedBetween}
+use Rattle.mz_shelf.specs.Chain.{DidAll, StoppedBetween}
 use Rattle.mz_shelf.proofs.ChainLemmas.{KeepsCounts-refl, KeepsCounts-trans, Rose-from, Rose-to, DidAll-nil, DidAll-append, StoppedAt-rose, StoppedBetween-all, StoppedBetween-after, StoppedBetween-before}
 use Rattle.mz_run.specs.declared.job.Job.{Job}
 use Rattle.mz_run.specs.declared.job.Finished.{Finished}
-use Rattle.mz_run.specs.declared.input.InputFault.{InputFault}
 use Rattle.mz_run.specs.declared.status.Status.{Status}
 use Rattle.mz_run.specs.declared.status.Status.TheVariants.{Done, Words, Input, ShelfFault, Absent, NoMemory}
 use Rattle.mz_run.specs.declared.stop.Stop.{Stop}
 use Rattle.mz_run.specs.declared.stop.Stop.TheVariants.{Fault, NoMemory as NoMemoryStop}
 use Rattle.mz_run.specs.declared.trail.RunTrail.{RunTrail}
 use Rattle.mz_run.specs.Acts.{opening_acts, run_acts, closing_acts, acts_for_best, acts_of_runs, acts_of}
-use Rattle.mz_run.specs.Ending.{Prepared, IsPrepared, DidWhole, FailedInStage, Worked, SaysLine, Refuses}
+use Rattle.mz_run.specs.Ending.{Prepared, Worked, SaysLine, Refuses}
 use Rattle.mz_run.specs.Ending.SaysLine.{said, failed, unsaid}
 use Rattle.mz_run.specs.Ending.Stage.{in_opening, in_run, in_closing}
 use Rattle.mz_run.specs.Finished.{RunsProgram, RunsJob, IsAnswerTo, NoneRose, IsDoneOrNoMemory}
 use Rattle.mz_run.specs.Performed.{Stopped, Performed, status_of, status_of_stop}
-use Rattle.mz_run.specs.Project.{Asked, asked_of}
-use Rattle.mz_run.specs.Project.Asked.{Accepted}
-use Rattle.mz_run.specs.Reading.{OnlyRead, IfTold}
+use Rattle.mz_project.specs.ReadAs.{IfTold, OnlyRead}
+use Rattle.mz_project.specs.Reads.{Outcome}
+use Rattle.mz_project.specs.Reads.Outcome.{Given}
+use Rattle.mz_run.specs.Project.{Project, asked_of, project_of}
 
 -- the opening stopped
 opening_fails : (job : Job) (old new : State) (stop : Stop) → Stopped (opening_acts job) old new stop → Worked job [] old new (status_of_stop stop)
@@ -89,7 +89,7 @@ runs_whole form chance old mid new job finished prepared ran = record {
 }
 
 -- the answers to an accepted project
-accepted_answer : (job : Job) (trails : List RunTrail) (old new : State) (s : Status) → Worked job trails old new s → (asked : Asked) → asked ≡ Accepted job.params job.problem → IsAnswerTo asked s
+accepted_answer : (job : Job) (trails : List RunTrail) (old new : State) (s : Status) → Worked job trails old new s → (asked : Outcome Project) → asked ≡ Given (project_of job.params job.problem) → IsAnswerTo asked s
 accepted_answer job trails old new Done h asked e = subst (λ a. IsAnswerTo a Done) (sym e) tt
 accepted_answer job trails old new Words h asked e = absurd h
 accepted_answer job trails old new (Input fault) h asked e = absurd h
@@ -102,10 +102,10 @@ then_told None P Q more h = tt
 then_told (Some files) P Q more h = more files h
 
 pub answers_accepted : (form : Option (List ℕ)) (chance : ℕ) (old mid new : State) (job : Job) (finished : Finished) → Prepared form chance old mid job → RunsJob job mid new finished
-    → IfSome form (λ file. IfTold old (λ files. IsAnswerTo (asked_of files file) finished.status))
+    → IfSome form (λ file. IfTold old (λ files. IsAnswerTo (asked_of file files).outcome finished.status))
 answers_accepted None chance old mid new job finished prepared ran = absurd prepared
 answers_accepted (Some file) chance old mid new job finished prepared ran =
-    then_told old.contents.files (λ files. asked_of files file ≡ Accepted job.params job.problem) _ (λ files e. accepted_answer job finished.trails mid ran.before finished.status ran.worked (asked_of files file) e) prepared.asked
+    then_told old.contents.files (λ files. (asked_of file files).outcome ≡ Given (project_of job.params job.problem)) _ (λ files e. accepted_answer job finished.trails mid ran.before finished.status ran.worked (asked_of file files).outcome e) prepared.asked
 
 -- the counts never fall
 says_keeps : (line : List ℕ) (old new : State) → SaysLine line old new → KeepsCounts old.counts new.counts

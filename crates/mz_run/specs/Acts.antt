@@ -1,9 +1,10 @@
 -- What the program writes and says for its job, in order.
-use Rattle.std.specs.Prelude.{◌≡◌, ℕ, ◌==◌, if◌then◌else◌, nat_le, nat_lt, cond, List, [], ◌∷◌, ◌++◌, length, codes, Option, None, Some}
+use Rattle.std.specs.Prelude.{ℕ, ◌==◌, if◌then◌else◌, nat_le, List, [], ◌∷◌, ◌++◌, length, codes, Option, None, Some}
 use Rattle.std.specs.List.{flat_map}
 use Rattle.mz_shelf.specs.Act.{Act}
 use Rattle.mz_shelf.specs.Act.Act.{Say, Write}
 use Rattle.mz_params.specs.declared.params.Params.{Params}
+use Rattle.mz_params.specs.Folder.{file_in}
 use Rattle.mz_run.specs.declared.job.Job.{Job}
 use Rattle.mz_run.specs.declared.trail.RunTrail.{RunTrail}
 use Rattle.mz_run.specs.Job.{final_plan}
@@ -25,7 +26,7 @@ ending_of kind = if kind == 1 then codes ".dat" else (if kind == 2 then codes ".
 
 -- the file of that name part and kind
 abbrev pub output_name : Params → List ℕ → ℕ → List ℕ
-output_name params part kind = params.scen ++ part ++ ending_of kind
+output_name params part kind = file_in params.output_dir (params.scen ++ part ++ ending_of kind)
 
 -- a file that is written where its key isn't 0
 abbrev pub file_if_asked : Params → ℕ → List ℕ → List ℕ → List Act

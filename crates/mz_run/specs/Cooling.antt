@@ -1,5 +1,5 @@
 -- The cooling that the parameters ask for.
-use Rattle.std.specs.Prelude.{ℕ, ◌*◌, max, unwrap_or}
+use Rattle.std.specs.Prelude.{◌*◌, max, unwrap_or}
 use Rattle.mz_params.specs.declared.params.Params.{Params}
 use Rattle.mz_cool.specs.Schedule.{Cooling}
 

@@ -1,19 +1,18 @@
 -- How a run of the program ends, and what the shelf holds then.
-use Rattle.std.specs.Prelude.{◌≡◌, ℕ, List, [], ◌∷◌, ◌++◌, length, take, Option, Some, None, IfSome}
-use Rattle.mz_shelf.specs.State.{State, Files, Rose, KeepsCounts}
+use Rattle.std.specs.Prelude.{◌≡◌, ℕ, List, [], ◌∷◌, ◌++◌, length, take, Option, Some, None}
+use Rattle.mz_shelf.specs.State.{State, Rose, KeepsCounts}
 use Rattle.mz_shelf.specs.Act.{Act, after}
 use Rattle.mz_shelf.specs.Act.Act.{Say}
 use Rattle.mz_shelf.specs.Chain.{DidAll, StoppedAt, StoppedBetween}
-use Rattle.mz_run.specs.declared.input.InputFault.{InputFault}
 use Rattle.mz_run.specs.declared.status.Status.{Status}
-use Rattle.mz_run.specs.declared.status.Status.TheVariants.{Done, Words, Input, ShelfFault, Absent, NoMemory}
+use Rattle.mz_run.specs.declared.status.Status.TheVariants.{Done, Words, ShelfFault, NoMemory}
 use Rattle.mz_run.specs.declared.job.Job.{Job}
 use Rattle.mz_run.specs.declared.trail.RunTrail.{RunTrail}
 use Rattle.mz_run.specs.Acts.{opening_acts, run_acts, closing_acts, acts_of_runs, acts_of}
 use Rattle.mz_run.specs.Job.{seed_of}
-use Rattle.mz_run.specs.Project.{Asked, asked_of}
-use Rattle.mz_run.specs.Project.Asked.{Accepted}
-use Rattle.mz_run.specs.Reading.{OnlyRead, InputStopped, IfTold, about_project}
+use Rattle.mz_run.specs.Project.{InputStopped, asked_of, project_of}
+use Rattle.mz_project.specs.ReadAs.{IfTold, OnlyRead}
+use Rattle.mz_project.specs.Reads.Outcome.{Given}
 use Rattle.mz_run.specs.Refusal.{refusal_line}
 
 -- a project was accepted: one worker, no number that it was made from, the random seed of its parameters or the
@@ -23,7 +22,7 @@ pub record IsPrepared (file : List ℕ) (chance : ℕ) (old new : State) (job : 
   pub workers : job.workers ≡ 1
   pub generated : job.generated ≡ None
   pub seed : job.seed ≡ seed_of job.params chance
-  pub asked : IfTold old (λ files. asked_of files file ≡ Accepted job.params job.problem)
+  pub asked : IfTold old (λ files. (asked_of file files).outcome ≡ Given (project_of job.params job.problem))
 
 -- what comes of the words' file, or of words that name none
 abbrev pub Prepared : Option (List ℕ) → ℕ → State → State → Job → Type 0
@@ -37,7 +36,7 @@ IsWords status = ⊥
 
 abbrev pub NotPrepared : Option (List ℕ) → State → State → Status → Type 0
 NotPrepared None old new status = IsWords status × (new ≡ old)
-NotPrepared (Some file) old new status = InputStopped (about_project file) old new status
+NotPrepared (Some file) old new status = InputStopped (asked_of file) old new status
 
 -- all acts were done, with a trail for each run
 pub record DidWhole (job : Job) (trails : List RunTrail) (old new : State) : Type 0 where

@@ -1,16 +1,15 @@
 -- What the top call promises of a whole run of the program.
 use Rattle.std.specs.Prelude.{◌≡◌, ℕ, List, [], Option, Some, None}
 use Rattle.mz_shelf.specs.State.{State, Files, Rose}
-use Rattle.mz_params.specs.declared.params.Params.{Params}
-use Rattle.mz_model.specs.declared.parts.Parts.{Parts}
 use Rattle.mz_run.specs.declared.status.Status.{Status}
-use Rattle.mz_run.specs.declared.status.Status.TheVariants.{Done, Words, Input, ShelfFault, Absent, NoMemory}
+use Rattle.mz_run.specs.declared.status.Status.TheVariants.{Done, Input, ShelfFault, Absent, NoMemory}
 use Rattle.mz_run.specs.declared.job.Job.{Job}
 use Rattle.mz_run.specs.declared.job.Finished.{Finished}
 use Rattle.mz_run.specs.declared.trail.RunTrail.{RunTrail}
 use Rattle.mz_run.specs.Ending.{Prepared, NotPrepared, Worked, Refuses}
-use Rattle.mz_run.specs.Project.{Asked, asked_of}
-use Rattle.mz_run.specs.Project.Asked.{Missing, Refused, Accepted}
+use Rattle.mz_project.specs.Reads.{Outcome}
+use Rattle.mz_project.specs.Reads.Outcome.{Missing, Refused, Given}
+use Rattle.mz_run.specs.Project.{Project, asked_of}
 use Rattle.mz_run.specs.Trail.{AreTrails}
 
 -- with a job: it was accepted, its trails are those of its first runs, and it was worked at
@@ -36,12 +35,12 @@ pub record RunsProgram (form : Option (List ℕ)) (chance : ℕ) (old new : Stat
   pub refusal : Refuses finished.status before new
 
 -- the answers that the input may have, besides a fault of the shelf and want of memory
-abbrev pub IsAnswerTo : Asked → Status → Type 0
+abbrev pub IsAnswerTo : Outcome Project → Status → Type 0
 IsAnswerTo asked NoMemory = Unit {0}
 IsAnswerTo asked (ShelfFault name) = Unit {0}
 IsAnswerTo (Missing name) (Absent missing) = missing ≡ name
 IsAnswerTo (Refused fault) (Input refused) = refused ≡ fault
-IsAnswerTo (Accepted params parts) Done = Unit {0}
+IsAnswerTo (Given project) Done = Unit {0}
 IsAnswerTo asked status = ⊥
 
 -- no count rose
@@ -60,9 +59,8 @@ IsDoneOrNoMemory status = ⊥
 pub record IsAcceptedInput (file : List ℕ) (old : State) : Type 0 where
   pub files : Files
   pub told : old.contents.files ≡ Some files
-  pub params : Params
-  pub parts : Parts
-  pub asked : asked_of files file ≡ Accepted params parts
+  pub project : Project
+  pub asked : (asked_of file files).outcome ≡ Given project
 
 -- a job was worked at, and what came of it was said
 pub record RunsJob (job : Job) (old new : State) (finished : Finished) : Type 0 where

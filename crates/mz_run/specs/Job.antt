@@ -1,5 +1,5 @@
 -- What the program has to do: a project, its parameters, and how many workers do it.
-use Rattle.std.specs.Prelude.{ℕ, ◌||◌, ◌&&◌, not, ◌==◌, if◌then◌else◌, nat_lt, List, length, Option, None, Some, unwrap_or}
+use Rattle.std.specs.Prelude.{ℕ, ◌||◌, ◌&&◌, ◌==◌, if◌then◌else◌, nat_lt, List, length, unwrap_or}
 use Rattle.mz_params.specs.declared.params.Params.{Params}
 use Rattle.mz_model.specs.Zones.{free_units}
 use Rattle.mz_run.specs.declared.job.Job.{Job}

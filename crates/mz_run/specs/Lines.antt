@@ -1,5 +1,5 @@
 -- The lines that the program says of its work.
-use Rattle.std.specs.Prelude.{ℕ, List, [], ◌∷◌, ◌++◌, length, codes, decimal}
+use Rattle.std.specs.Prelude.{ℕ, List, ◌++◌, length, codes, decimal}
 use Rattle.mz_num.specs.Decimal.{ten4_text}
 use Rattle.mz_model.specs.Parts.{unit_count, zone_count, row_count}
 use Rattle.mz_model.specs.Zones.{free_units}

@@ -1,5 +1,5 @@
 -- What comes of a chain of acts.
-use Rattle.std.specs.Prelude.{ℕ, List, Result, Ok, Err}
+use Rattle.std.specs.Prelude.{List, Result, Ok, Err}
 use Rattle.mz_shelf.specs.State.{State}
 use Rattle.mz_shelf.specs.Act.{Act}
 use Rattle.mz_shelf.specs.Chain.{DidAll, StoppedAt, StoppedBetween}

@@ -1,76 +1,65 @@
--- What the input files ask for.
-use Rattle.std.specs.Prelude.{ℕ, ◌*◌, nat_lt, if◌then◌else◌, List, [], ◌∷◌, length, map, replicate, Option, Some, None}
-use Rattle.std.specs.List.{flat_map}
-use Rattle.std.specs.Option.{option_and_then}
-use Rattle.std.specs.FinMap.{get}
-use Rattle.mz_shelf.specs.State.{Files}
-use Rattle.mz_shelf.specs.Shelf.{most_bytes}
+-- What the input files ask for: a project that the program can do today.
+use Rattle.std.specs.Prelude.{ℕ, List, Option, Some, None, Result, Ok, Err}
+use Rattle.std.specs.Option.{option_or}
+use Rattle.mz_shelf.specs.State.{Files, State}
+use Rattle.mz_params.specs.declared.fault.ParamFault.TheVariants.{LeftOut}
+use Rattle.mz_params.specs.declared.key.Key.{Key}
 use Rattle.mz_params.specs.declared.params.Params.{Params}
 use Rattle.mz_model.specs.declared.parts.Parts.{Parts}
-use Rattle.mz_run.specs.declared.input.Which.{Which}
-use Rattle.mz_run.specs.declared.input.Which.TheVariants.{Params as ParamFile, Units}
-use Rattle.mz_run.specs.declared.input.InputFault.{InputFault}
-use Rattle.mz_run.specs.declared.input.InputFault.TheVariants.{TooLong, Unbuilt}
-use Rattle.mz_run.specs.declared.plain.units.PlainUnit.{PlainUnit}
-use Rattle.mz_run.specs.PlainParams.{plain_params_of}
-use Rattle.mz_run.specs.PlainUnits.{plain_units_of}
+use Rattle.mz_project.specs.declared.fault.InputFault.{InputFault}
+use Rattle.mz_project.specs.declared.fault.InputFault.TheVariants.{Param}
+use Rattle.mz_project.specs.declared.fault.ReadFault.{ReadFault}
+use Rattle.mz_project.specs.declared.fault.ReadFault.TheVariants as fault
+use Rattle.mz_project.specs.Project.{params_read, project_read}
+use Rattle.mz_project.specs.ReadAs.{IsMissing, IsRefused, IsUnread, OnlyRead}
+use Rattle.mz_project.specs.Reads.{Reads, taken, then_read}
+use Rattle.mz_run.specs.Built.{file_tests, search_tests, output_tests, first_key}
+use Rattle.mz_run.specs.declared.status.Status.{Status}
+use Rattle.mz_run.specs.declared.status.Status.TheVariants.{Input, ShelfFault, Absent, NoMemory}
 
--- a file that isn't there, the first fault, or a project with its parameters
-pub data Asked : Type 0 where
-  Missing : List ℕ → Asked
-  Refused : InputFault → Asked
-  Accepted : Params → Parts → Asked
+-- a problem, and the parameters that it was read for
+pub record Project : Type 0 where
+  pub params : Params
+  pub parts : Parts
 
--- the plain problem: the zones 1 (available) and 2, no boundary and no feature; a unit costs nothing in the
--- available zone and its cost in the other one
-unfoldable pub plain_parts : List PlainUnit → Parts
-plain_parts units = record {
-  unit_ids = map (λ (unit : PlainUnit). unit.id) units;
-  zone_ids = 1 ∷ 2 ∷ [];
-  feature_ids = [];
-  names = [];
-  available = 0;
-  allowed = replicate (length units) 3;
-  costs = flat_map (λ (unit : PlainUnit). 0 ∷ (unit.cost * 10000) ∷ []) units;
-  rates = replicate 4 0;
-  edges = [];
-  outer = replicate (length units) 0;
-  targets = [];
-  amounts = [];
-  fractions = [];
-}
+abbrev pub project_of : Params → Parts → Project
+project_of params parts = record { params = params; parts = parts }
 
--- what a file's bytes are read as, where it is there and short enough
-abbrev pub with_file : Files → List ℕ → Which → (List ℕ → Asked) → Asked
-with_file files name which read = found (get files name)
-  where
-    found : Option (List ℕ) → Asked
-    found None = Missing name
-    found (Some bytes) = if nat_lt most_bytes (length bytes) then Refused (TooLong which) else read bytes
+-- the first key, in the order of keys, that asks for what isn't built yet
+unfoldable pub unbuilt_key : Params → Option Key
+unbuilt_key params = option_or (first_key (file_tests params)) (option_or (first_key (search_tests params)) (first_key (output_tests params)))
 
-abbrev pub units_asked : Params → List ℕ → Asked
-units_asked params bytes = read (plain_units_of bytes)
-  where
-    read : Option (List PlainUnit) → Asked
-    read None = Refused (Unbuilt Units)
-    read (Some units) = Accepted params (plain_parts units)
+-- the parameters, unless a key asks for what isn't built
+abbrev pub unless_unbuilt : Option Key → Params → Result Params InputFault
+unless_unbuilt (Some key) params = Err (Param (LeftOut key))
+unless_unbuilt None params = Ok params
 
-abbrev pub params_asked : Files → List ℕ → Asked
-params_asked files bytes = read (plain_params_of bytes)
-  where
-    read : Option Params → Asked
-    read None = Refused (Unbuilt ParamFile)
-    read (Some params) = with_file files params.units Units (units_asked params)
+unfoldable pub built_params : Params → Result Params InputFault
+built_params params = unless_unbuilt (unbuilt_key params) params
 
--- the parameter file of that name, and then the unit file that it names
-abbrev pub asked_of : Files → List ℕ → Asked
-asked_of files name = with_file files name ParamFile (params_asked files)
+-- the problem of parameters, with them
+abbrev pub parts_asked : Params → Files → Reads Project
+parts_asked params files = then_read (project_read params files) (λ (parts : Parts). taken (Ok (project_of params parts)))
 
--- the names of the files that are read, in order: the parameter file, and the unit file that it names in its
--- plain form
-abbrev pub named_by : Option Params → List (List ℕ)
-named_by None = []
-named_by (Some params) = params.units ∷ []
+-- the project of read parameters, unless a key asks for what isn't built: this comes before another file is read
+abbrev pub project_asked : Params → Files → Reads Project
+project_asked params files = then_read (taken (built_params params)) (λ (built : Params). parts_asked built files)
 
-abbrev pub inputs_of : Files → List ℕ → List (List ℕ)
-inputs_of files name = name ∷ named_by (option_and_then plain_params_of (get files name))
+-- the parameter file of that name, and then the files that it gives
+unfoldable pub asked_of : List ℕ → Files → Reads Project
+asked_of name files = then_read (params_read name files) (λ (params : Params). project_asked params files)
+
+-- the status of an input that couldn't be read
+abbrev pub status_of_read : ReadFault → Status
+status_of_read (fault.Shelf name) = ShelfFault name
+status_of_read (fault.Absent name) = Absent name
+status_of_read (fault.Input f) = Input f
+status_of_read fault.NoMemory = NoMemory
+
+-- why the input gave no project
+abbrev pub InputStopped : {X : Type 0} → (Files → Reads X) → State → State → Status → Type 0
+InputStopped reads old new (Input f) = IsRefused reads old new f
+InputStopped reads old new (ShelfFault name) = IsUnread reads old new name
+InputStopped reads old new (Absent name) = IsMissing reads old new name
+InputStopped reads old new NoMemory = OnlyRead old new
+InputStopped reads old new status = ⊥

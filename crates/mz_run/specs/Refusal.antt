@@ -1,9 +1,20 @@
 -- The line that is said of a refusal.
-use Rattle.std.specs.Prelude.{ℕ, List, [], ◌++◌, codes}
-use Rattle.mz_run.specs.declared.input.Which.{Which}
-use Rattle.mz_run.specs.declared.input.Which.TheVariants.{Params, Zones, Costs, Units, ZoneCosts, Features, Amounts, Contribs, ZoneTargets, ZoneSets, Locks, Bounds, ZoneBounds}
-use Rattle.mz_run.specs.declared.input.InputFault.{InputFault}
-use Rattle.mz_run.specs.declared.input.InputFault.TheVariants.{TooLong, Unbuilt}
+use Rattle.std.specs.Prelude.{ℕ, Bool, false, nat_lt, if◌then◌else◌, List, [], ◌∷◌, ◌++◌, codes, decimal, get_or}
+use Rattle.mz_params.specs.declared.fault.ParamFault.{ParamFault}
+use Rattle.mz_params.specs.declared.fault.ParamFault.TheVariants as param_fault
+use Rattle.mz_params.specs.KeyName.{name_of}
+use Rattle.mz_num.specs.declared.fault.NumFault.{NumFault}
+use Rattle.mz_num.specs.declared.fault.NumFault.TheVariants as num_fault
+use Rattle.mz_project.specs.declared.fault.What.{What}
+use Rattle.mz_project.specs.declared.fault.What.TheVariants.{Cost, Rate, Boundary, Edge, Amount, Gain, Level}
+use Rattle.mz_tables.specs.declared.fault.RowFault.{RowFault}
+use Rattle.mz_tables.specs.declared.fault.RowFault.TheVariants as row_fault
+use Rattle.mz_tables.specs.declared.fault.TableFault.{TableFault}
+use Rattle.mz_tables.specs.declared.fault.TableFault.TheVariants as table_fault
+use Rattle.mz_project.specs.declared.fault.Which.{Which}
+use Rattle.mz_project.specs.declared.fault.Which.TheVariants.{Params, Zones, Costs, Units, ZoneCosts, Features, Amounts, Contribs, ZoneTargets, ZoneSets, Locks, Bounds, ZoneBounds}
+use Rattle.mz_project.specs.declared.fault.InputFault.{InputFault}
+use Rattle.mz_project.specs.declared.fault.InputFault.TheVariants.{TooLong, Param, Table, Row, Sum, Weight}
 use Rattle.mz_run.specs.declared.status.Status.{Status}
 use Rattle.mz_run.specs.declared.status.Status.TheVariants.{Done, Words, Input, ShelfFault, Absent, NoMemory}
 
@@ -23,9 +34,81 @@ word_of_file Locks = codes "pulock"
 word_of_file Bounds = codes "bound"
 word_of_file ZoneBounds = codes "zoneboundcost"
 
+-- the first names of a file's columns; those of the unit file behind the first are its costs
+abbrev pub column_names : Which → List (List ℕ)
+column_names Params = []
+column_names Zones = codes "zoneid" ∷ codes "zonename" ∷ []
+column_names Costs = codes "costid" ∷ codes "costname" ∷ []
+column_names Units = codes "id" ∷ []
+column_names ZoneCosts = codes "zoneid" ∷ codes "costid" ∷ codes "multiplier" ∷ []
+column_names Features = codes "id" ∷ codes "target" ∷ codes "prop" ∷ codes "spf" ∷ codes "name" ∷ codes "target2" ∷ codes "sepnum" ∷ codes "sepdistance" ∷ codes "targetocc" ∷ []
+column_names Amounts = codes "featureid" ∷ codes "puid" ∷ codes "amount" ∷ []
+column_names Contribs = codes "zoneid" ∷ codes "featureid" ∷ codes "fraction" ∷ []
+column_names ZoneTargets = codes "zoneid" ∷ codes "featureid" ∷ codes "target" ∷ codes "targettype" ∷ []
+column_names ZoneSets = codes "puid" ∷ codes "zoneid" ∷ []
+column_names Locks = codes "puid" ∷ codes "zoneid" ∷ []
+column_names Bounds = codes "id1" ∷ codes "id2" ∷ codes "boundary" ∷ []
+column_names ZoneBounds = codes "zoneid1" ∷ codes "zoneid2" ∷ codes "cost" ∷ []
+
+-- every column of the unit file behind the first is a cost
+abbrev pub is_cost_column : Which → ℕ → Bool
+is_cost_column Units place = nat_lt 0 place
+is_cost_column which place = false
+
+-- the name of the column at a place; it is empty past the last column
+abbrev pub column_name : Which → ℕ → List ℕ
+column_name which place = if is_cost_column which place then codes "cost " ++ decimal place else get_or (column_names which) place []
+
+-- why a parameter file is refused
+abbrev pub param_text : ParamFault → List ℕ
+param_text (param_fault.Repeated key) = name_of key ++ codes " repeated"
+param_text (param_fault.BadValue key) = name_of key ++ codes " bad value"
+param_text (param_fault.OutOfRange key) = name_of key ++ codes " out of range"
+param_text (param_fault.LeftOut key) = name_of key ++ codes " left out"
+param_text (param_fault.Missing key) = name_of key ++ codes " missing"
+param_text param_fault.NoMemory = []
+
+-- why a table is refused
+abbrev pub table_text : Which → TableFault → List ℕ
+table_text which table_fault.NoHeader = codes "no header"
+table_text which (table_fault.ColumnMissing place) = codes "column " ++ column_name which place ++ codes " missing"
+table_text which (table_fault.Uneven line) = codes "line " ++ decimal line ++ codes " uneven"
+table_text which table_fault.NoMemory = []
+
+-- why a text is no number
+abbrev pub number_text : NumFault → List ℕ
+number_text num_fault.Empty = codes "empty"
+number_text num_fault.NotANumber = codes "not a number"
+number_text num_fault.Negative = codes "negative"
+number_text num_fault.TooLarge = codes "too large"
+
+-- why a row is refused, from its line on
+abbrev pub row_text : Which → RowFault → List ℕ
+row_text which (row_fault.TooMany line) = decimal line ++ codes " too many"
+row_text which (row_fault.BadNumber line place fault) = decimal line ++ codes " bad number in " ++ column_name which place ++ codes ": " ++ number_text fault
+row_text which (row_fault.LeftOut line place) = decimal line ++ codes " left out " ++ column_name which place
+row_text which (row_fault.Unknown line place) = decimal line ++ codes " unknown " ++ column_name which place
+row_text which (row_fault.Repeated line) = decimal line ++ codes " repeated"
+row_text which (row_fault.LockConflict line id) = decimal line ++ codes " unit " ++ decimal id ++ codes " is locked outside its zones"
+row_text which row_fault.NoMemory = []
+
+-- the word of a quantity that has a limit
+abbrev pub word_of_quantity : What → List ℕ
+word_of_quantity Cost = codes "cost"
+word_of_quantity Rate = codes "rate"
+word_of_quantity Boundary = codes "boundary"
+word_of_quantity Edge = codes "edge"
+word_of_quantity Amount = codes "amount"
+word_of_quantity Gain = codes "gain"
+word_of_quantity Level = codes "level"
+
 abbrev pub input_text : InputFault → List ℕ
 input_text (TooLong which) = word_of_file which ++ codes ": too long"
-input_text (Unbuilt which) = word_of_file which ++ codes ": not built"
+input_text (Param fault) = codes "input: " ++ param_text fault
+input_text (Table which fault) = word_of_file which ++ codes ": " ++ table_text which fault
+input_text (Row which fault) = word_of_file which ++ codes ": line " ++ row_text which fault
+input_text (Sum what) = codes "limit: " ++ word_of_quantity what
+input_text (Weight id) = codes "limit: weight of feature " ++ decimal id
 
 -- the exit status
 abbrev pub code_of : Status → ℕ

@@ -1,5 +1,5 @@
 -- The solution text of a plan.
-use Rattle.std.specs.Prelude.{ℕ, List, [], ◌∷◌, ◌++◌, slice_index, codes, decimal}
+use Rattle.std.specs.Prelude.{ℕ, List, ◌++◌, slice_index, codes, decimal}
 use Rattle.std.specs.List.{concat}
 use Rattle.mz_num.specs.Decimal.{ten4_text}
 use Rattle.mz_model.specs.declared.parts.Parts.{Parts}

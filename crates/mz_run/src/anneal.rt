@@ -8,7 +8,7 @@ ghost use Rattle.mz_run.specs.Annealed.{IsAnnealed};
 ghost use Rattle.mz_run.specs.Cooling.{cooling_of};
 ghost use Rattle.mz_run.specs.Entry.{next_entry, plan_after};
 ghost use Rattle.mz_run.specs.Job.{entries_of_run};
-ghost use Rattle.mz_run.specs.Plain.{IsPlain, IsPlainJob};
+ghost use Rattle.mz_run.specs.Built.{IsBuilt};
 
 use crate::entry::Entry;
 use crate::job::Job;
@@ -40,7 +40,7 @@ pub(crate) struct Annealed {
 
 /// Anneals one run, from the starting plan to its last entry.
 pub(crate) fn anneal(alloc: Global, job: &Job, run: u32) -> Result<Annealed, NoMemory>
-    requires plain { IsPlainJob job.now }
+    requires built { IsBuilt job.now.params }
     requires few_runs { run ≤ 1000 }
     requires some_worker { 1 ≤ job.now.workers }
     ensures { IfOk result (IsAnnealed job.now run) }
@@ -108,7 +108,7 @@ fn propose(
 }
 
 fn rules_of(alloc: Global, params: &Params) -> Result<Rules, NoMemory>
-    requires { IsPlain params.now }
+    requires { IsBuilt params.now }
     ensures { IfOk result (λ rules. rules.schedule ≡ cooling_of params.now) }
 {
     let first = u128::from(given_start(params.start)) * 1000;

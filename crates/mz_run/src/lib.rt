@@ -2,15 +2,14 @@
 #![tactic(auto)]
 
 mod anneal;
+mod built;
 mod entry;
-mod input;
+mod input_text;
 mod job;
 mod lines;
 mod output;
-mod plain;
 mod preparation;
 mod program;
-mod reading;
 mod refusal;
 mod solution;
 mod start;
@@ -23,8 +22,8 @@ mod trail;
 mod words;
 
 pub use entry::Entry;
-pub use input::{InputFault, Which};
 pub use job::{Finished, Job};
+pub use mz_project::{InputFault, What, Which};
 pub use preparation::prepare;
 pub use program::marzone;
 pub use refusal::fault_text;

@@ -14,7 +14,7 @@ use crate::stop::{Stop, say, write};
 use crate::trail::RunTrail;
 use mz_model::Plan;
 use mz_num::{NoMemory, Text};
-use mz_params::Params;
+use mz_params::{Params, file_in_folder};
 use mz_shelf::Shelf;
 use std::alloc::Global;
 
@@ -36,7 +36,7 @@ fn file_name(alloc: Global, params: &Params, part: &str, kind: u8) -> Result<Tex
     let mut name = String::from_str(alloc, params.scen.as_str())?;
     name.push_str(part)?;
     name.push_str(ending(kind))?;
-    Ok(Text::new(name))
+    file_in_folder(alloc, params.output_dir.as_str(), name.as_str())
 }
 
 /// Says the opening of the work.

@@ -3,9 +3,9 @@ ghost use Rattle.std.specs.Prelude.{◌≡◌, ◌≤◌, ◌↔◌, [], IfSome,
 ghost use Rattle.mz_run.specs.Ending.{IsWords, Worked};
 ghost use Rattle.mz_run.specs.Finished.{IsAcceptedInput, IsAnswerTo, IsDoneOrNoMemory, NoneRose, RunsJob, RunsProgram};
 ghost use Rattle.mz_run.specs.Performed.{status_of};
-ghost use Rattle.mz_run.specs.Plain.{IsPlainJob};
+ghost use Rattle.mz_run.specs.Built.{IsBuilt};
 ghost use Rattle.mz_run.specs.Project.{asked_of};
-ghost use Rattle.mz_run.specs.Reading.{IfTold};
+ghost use Rattle.mz_project.specs.ReadAs.{IfTold};
 ghost use Rattle.mz_run.specs.Trail.{AreTrails};
 ghost use Rattle.mz_run.specs.Words.{file_of};
 
@@ -27,7 +27,7 @@ pub fn marzone<S: Shelf>(alloc: Global, words: &[String], chance: u64, shelf: &m
     ensures runs { RunsProgram (file_of words.now) chance (S.state shelf.old) (S.state shelf.new) result }
     ensures words { IsWords result.status ↔ (file_of words.now ≡ None) }
     ensures answers { IfSome (file_of words.now) (λ file.
-        IfTold (S.state shelf.old) (λ files. IsAnswerTo (asked_of files file) result.status)) }
+        IfTold (S.state shelf.old) (λ files. IsAnswerTo (asked_of file files).outcome result.status)) }
     ensures completes { IfSome (file_of words.now) (λ file.
         IsAcceptedInput file (S.state shelf.old) → NoneRose (S.state shelf.old) (S.state shelf.new) → IsDoneOrNoMemory result.status) }
 {
@@ -45,7 +45,7 @@ pub fn marzone<S: Shelf>(alloc: Global, words: &[String], chance: u64, shelf: &m
 }
 
 fn run_job<S: Shelf>(alloc: Global, shelf: &mut S, job: Job) -> Finished
-    requires plain { IsPlainJob job }
+    requires built { IsBuilt job.params }
     requires some_worker { 1 ≤ job.workers }
     ensures { RunsJob job (S.state shelf.old) (S.state shelf.new) result }
 {
@@ -76,7 +76,7 @@ fn work<S: Shelf>(
     job: &Job,
     trails: &mut Vec<RunTrail>,
 ) -> Result<(), Stop>
-    requires plain { IsPlainJob job.now }
+    requires built { IsBuilt job.now.params }
     requires some_worker { 1 ≤ job.now.workers }
     requires fresh { trails.old.items ≡ [] }
     ensures worked { Worked job.now trails.new.items (S.state shelf.old) (S.state shelf.new) (status_of result) }

@@ -1,52 +1,13 @@
 //! The line that is said of a refusal.
-ghost use Rattle.std.specs.Prelude.{◌≡◌, ◌++◌, IfOk};
-ghost use Rattle.mz_run.specs.Refusal.{word_of_file, input_text, text_of_status, refusal_line};
+ghost use Rattle.std.specs.Prelude.{◌≡◌, IfOk};
+ghost use Rattle.mz_run.specs.Refusal.{text_of_status, refusal_line};
 ghost use Rattle.mz_run.specs.Ending.{Refuses, SaysLine};
 
-use crate::input::{InputFault, Which};
+use crate::input_text::{input_fault_text, joined};
 use crate::status::Status;
 use mz_num::NoMemory;
 use mz_shelf::Shelf;
 use std::alloc::Global;
-
-/// The word by which a message names an input file.
-fn word_of(which: Which) -> &'static str
-    ensures { result.now ≡ word_of_file which }
-{
-    match which {
-        Which::Params => "input",
-        Which::Zones => "zones",
-        Which::Costs => "costs",
-        Which::Units => "units",
-        Which::ZoneCosts => "zonecost",
-        Which::Features => "features",
-        Which::Amounts => "amounts",
-        Which::Contribs => "zonecontrib",
-        Which::ZoneTargets => "zonetarget",
-        Which::ZoneSets => "puzone",
-        Which::Locks => "pulock",
-        Which::Bounds => "bound",
-        Which::ZoneBounds => "zoneboundcost",
-    }
-}
-
-/// Two texts, one behind the other.
-fn joined(alloc: Global, front: &str, end: &str) -> Result<Vec<u8>, NoMemory>
-    ensures { IfOk result (λ text. text.items ≡ front.now ++ end.now) }
-{
-    let mut text = Vec::from_slice(alloc, front.as_bytes())?;
-    text.extend_from_slice(end.as_bytes())?;
-    Ok(text)
-}
-
-fn input_fault_text(alloc: Global, fault: InputFault) -> Result<Vec<u8>, NoMemory>
-    ensures { IfOk result (λ text. text.items ≡ input_text fault) }
-{
-    match fault {
-        InputFault::TooLong(which) => joined(alloc, word_of(which), ": too long"),
-        InputFault::Unbuilt(which) => joined(alloc, word_of(which), ": not built"),
-    }
-}
 
 /// The text of a status, without the word that refuses; none for a good end and for want of memory.
 #[tactic(auto, unfolding(crate::specs::Refusal::text_of_status))]

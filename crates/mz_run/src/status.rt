@@ -1,9 +1,10 @@
 //! How a run of the program ends.
 ghost use Rattle.std.specs.Prelude.{◌≡◌};
+ghost use Rattle.mz_run.specs.Project.{status_of_read};
 ghost use Rattle.mz_run.specs.Refusal.{code_of};
 
-use crate::input::InputFault;
 use mz_num::Text;
+use mz_project::{InputFault, ReadFault};
 
 /// How a run of the program ended.
 #[derive(Debug, Drop)]
@@ -33,5 +34,18 @@ pub fn code(status: &Status) -> u8
         Status::ShelfFault(_) => 3,
         Status::Absent(_) => 4,
         Status::NoMemory => 5,
+    }
+}
+
+impl From<ReadFault> for Status {
+    ghost from_gives = { λ fault status. status ≡ status_of_read fault };
+
+    fn from(fault: ReadFault) -> Status {
+        match fault {
+            ReadFault::Shelf(name) => Status::ShelfFault(name),
+            ReadFault::Absent(name) => Status::Absent(name),
+            ReadFault::Input(fault) => Status::Input(fault),
+            ReadFault::NoMemory => Status::NoMemory,
+        }
     }
 }

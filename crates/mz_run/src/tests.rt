@@ -1,15 +1,16 @@
 //! The plain project of three units, run whole over shelves in memory.
-use crate::{Finished, InputFault, Status, Which, code, fault_text, marzone, prepare};
+mod input;
+
+use crate::{Finished, InputFault, Status, What, Which, code, fault_text, marzone, prepare};
+use mz_num::NumFault;
 use mz_shelf::{MemShelf, SafeShelf, Shelf};
+use mz_tables::RowFault;
 use std::alloc::{AllocError, Global};
 use std::process::Abort;
 use std::test::Fail;
 
 const INPUT: &[u8] =
     b"PUNAME pu.dat\nRANDSEED 7\nNUMITNS 5\nSTARTTEMP 0\nCOOLFAC 1\nNUMTEMP 1\nRUNMODE 6\nSAVEBEST 3\n";
-
-const MARXAN_INPUT: &[u8] =
-    b"PUNAME pu.dat\nRANDSEED 7\nNUMITNS 5\nSTARTTEMP 0\nCOOLFAC 1\nNUMTEMP 1\nRUNMODE 1\nSAVEBEST 3\n";
 
 const UNITS: &[u8] = b"id,cost\n1,10\n2,20\n3,30\n";
 
@@ -43,11 +44,7 @@ fn described(alloc: Global, status: &Status) -> Result<String, AllocError> {
         Status::Done => String::from_str(alloc, "done"),
         Status::Words => String::from_str(alloc, "words"),
         Status::Input(InputFault::TooLong(_)) => String::from_str(alloc, "too long"),
-        Status::Input(InputFault::Unbuilt(Which::Params)) => String::from_str(
-            alloc,
-            "unbuilt input",
-        ),
-        Status::Input(InputFault::Unbuilt(_)) => String::from_str(alloc, "unbuilt"),
+        Status::Input(_) => String::from_str(alloc, "refused"),
         Status::ShelfFault(name) => format!(in alloc; "fault {}", name.as_str()),
         Status::Absent(name) => format!(in alloc; "absent {}", name.as_str()),
         Status::NoMemory => String::from_str(alloc, "memory"),
@@ -158,18 +155,6 @@ fn a_missing_unit_file_is_absent(rt: HostRuntime) -> Result<(), Fail> {
     Ok(())
 }
 
-#[test]
-fn another_run_mode_is_not_built(rt: HostRuntime) -> Result<(), Fail> {
-    let alloc = rt.alloc();
-    let mut shelf = project(alloc, Vec::new(alloc), 0)?;
-    shelf.put(alloc, "input.dat", MARXAN_INPUT)?;
-    let outcome = run_plain(alloc, &mut shelf)?;
-    assert_eq!(rt; outcome.code, 2);
-    assert_eq!(rt; outcome.status.as_str(), "unbuilt input");
-    assert!(rt; shelf.said() == b"refused: input: not built\n".as_slice());
-    Ok(())
-}
-
 /// One call of the run fails: the name that the status bears, and how many trails come back.
 fn fails_at(
     rt: &impl Abort,
@@ -272,12 +257,72 @@ fn a_project_is_prepared_in_silence(rt: HostRuntime) -> Result<(), Fail> {
     Ok(())
 }
 
+/// Whether the input's fault has this text.
+fn is_text(alloc: Global, fault: InputFault, text: &str) -> Result<bool, Fail> {
+    let found = fault_text(alloc, &Status::Input(fault))?;
+    Ok(found.as_slice() == text.as_bytes())
+}
+
 #[test]
-fn statuses_have_their_texts(rt: HostRuntime) -> Result<(), Fail> {
+fn faults_of_rows_have_their_texts(rt: HostRuntime) -> Result<(), Fail> {
+    let table = [
+        (
+            Which::Zones,
+            RowFault::TooMany(62),
+            "zones: line 62 too many",
+        ),
+        (
+            Which::ZoneCosts,
+            RowFault::BadNumber(2, 2, NumFault::NotANumber),
+            "zonecost: line 2 bad number in multiplier: not a number",
+        ),
+        (
+            Which::Units,
+            RowFault::BadNumber(3, 2, NumFault::TooLarge),
+            "units: line 3 bad number in cost 2: too large",
+        ),
+        (
+            Which::Features,
+            RowFault::LeftOut(2, 6),
+            "features: line 2 left out sepnum",
+        ),
+        (
+            Which::ZoneSets,
+            RowFault::Unknown(2, 0),
+            "puzone: line 2 unknown puid",
+        ),
+        (
+            Which::Costs,
+            RowFault::Repeated(3),
+            "costs: line 3 repeated",
+        ),
+        (
+            Which::Locks,
+            RowFault::BadNumber(2, 9, NumFault::Empty),
+            "pulock: line 2 bad number in : empty",
+        ),
+    ];
+    for (which, fault, text) in table {
+        assert!(rt;
+            is_text(rt.alloc(), InputFault::Row(which, fault), text)?,
+            "{text}"
+        );
+    }
+    Ok(())
+}
+
+#[test]
+fn limits_and_statuses_have_their_texts(rt: HostRuntime) -> Result<(), Fail> {
     let alloc = rt.alloc();
-    let status = Status::Input(InputFault::TooLong(Which::ZoneBounds));
-    let text = fault_text(alloc, &status)?;
-    assert!(rt; text.as_slice() == b"zoneboundcost: too long".as_slice());
+    assert!(rt;
+        is_text(
+            alloc,
+            InputFault::TooLong(Which::ZoneBounds),
+            "zoneboundcost: too long"
+        )?
+    );
+    assert!(rt; is_text(alloc, InputFault::Sum(What::Cost), "limit: cost")?);
+    assert!(rt; is_text(alloc, InputFault::Weight(7), "limit: weight of feature 7")?);
     let nothing = fault_text(alloc, &Status::Done)?;
     assert!(rt; nothing.is_empty());
     Ok(())

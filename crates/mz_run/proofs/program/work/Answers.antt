@@ -18,4 +18,4 @@ returns-in_err-close_run-clause-worked g c =
     rw (p.1, p.2) (run_stopped _ _ _ _ _ _ _ (one_item _ _ _ _ (is_ok c.push.result) c.requires.fresh (search rules) c.push.ensures.items c.index-trail.ensures) c.in_ok-open.ensures c.in_err-close_run.ensures)
 
 pub returns-clause-worked : goal.returns-clause-worked
-returns-clause-worked g c = closing_performed c.args.job.now _ _ _ _ _ _ c.close.result (one_item _ _ _ _ (is_ok c.push.result) c.requires.fresh (search rules) c.push.ensures.items c.index-trail.ensures) c.requires.plain.params.reps c.in_ok-open.ensures c.in_ok-close_run.ensures c.close.ensures
+returns-clause-worked g c = closing_performed c.args.job.now _ _ _ _ _ _ c.close.result (one_item _ _ _ _ (is_ok c.push.result) c.requires.fresh (search rules) c.push.ensures.items c.index-trail.ensures) c.requires.built.reps c.in_ok-open.ensures c.in_ok-close_run.ensures c.close.ensures

@@ -1,4 +1,3 @@
-use Rattle.std.proofs.Common.{rules}
 use Rattle.mz_run.proofs.EndingLemmas.{says_line}
 use Rattle.mz_run.proofs.refusal.say_refusal.Goals as goal
 

@@ -1,4 +1,3 @@
-use Rattle.std.proofs.Common.{rules}
 use Rattle.mz_run.proofs.EndingLemmas.{stopped_one}
 use Rattle.mz_run.proofs.stop.say.Goals as goal
 

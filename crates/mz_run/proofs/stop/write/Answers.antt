@@ -1,4 +1,4 @@
-use Rattle.std.proofs.Common.{rules, refl}
+use Rattle.std.proofs.Common.{refl}
 use Rattle.mz_run.proofs.EndingLemmas.{stopped_one}
 use Rattle.mz_run.proofs.stop.write.Goals as goal
 
