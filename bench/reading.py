@@ -1,0 +1,110 @@
+#!/usr/bin/env python3
+"""Times how the program reads a project: time and peak memory, beside a plain pass over the same bytes.
+
+    bench/reading.py
+
+It makes projects of 2,000, 20,000 and 100,000 planning units (three zones, two costs, zone costs, zone
+sets, locks), and a unit file of 5,000,000 rows, whose table is read whole before its 100,001st row is
+refused. It runs the program that `rt ci` left at crates/marzone/out/marzone on each, in a folder of its
+own, and `wc -l` over the same files. A figure is the least of three runs.
+"""
+
+import os
+import pathlib
+import random
+import shutil
+import sys
+import tempfile
+import time
+
+TOP = pathlib.Path(__file__).resolve().parent.parent
+PROGRAM = TOP / "crates" / "marzone" / "out" / "marzone"
+RUNS = 3
+
+INPUT = """PUNAME pu.dat
+ZONESNAME zones.dat
+COSTSNAME costs.dat
+ZONECOSTNAME zonecost.dat
+PUZONENAME puzone.dat
+PULOCKNAME pulock.dat
+RANDSEED 1
+NUMITNS 0
+STARTTEMP 0
+RUNMODE 6
+"""
+
+
+def project(folder, units):
+    """Writes a project of so many units, and gives the names of its files."""
+    rng = random.Random(units)
+    texts = {
+        "input.dat": INPUT,
+        "zones.dat": "zoneid,zonename\n1,available\n2,partial\n3,full\n",
+        "costs.dat": "costid,costname\n1,land\n2,care\n",
+        "zonecost.dat": "zoneid,costid,multiplier\n2,1,0.5\n3,1,1\n3,2,1\n",
+    }
+    rows = [f"{unit},{rng.randint(1, 10000) / 100},{rng.randint(0, 500) / 100}" for unit in range(1, units + 1)]
+    texts["pu.dat"] = "id,land,care\n" + "\n".join(rows) + "\n"
+    sets = [f"{unit},{zone}" for unit in range(1, units + 1, 20) for zone in (1, 2)]
+    texts["puzone.dat"] = "puid,zoneid\n" + "\n".join(sets) + "\n"
+    locks = [f"{unit},3" for unit in range(2, units + 1, 20)]
+    texts["pulock.dat"] = "puid,zoneid\n" + "\n".join(locks) + "\n"
+    for name, text in texts.items():
+        (folder / name).write_text(text)
+    return sorted(texts)
+
+
+def long_table(folder, rows):
+    """Writes a project whose unit file has so many rows."""
+    (folder / "input.dat").write_text("PUNAME pu.dat\nSTARTTEMP 0\nRUNMODE 6\n")
+    with open(folder / "pu.dat", "w") as file:
+        file.write("id,cost\n")
+        for first in range(1, rows + 1, 100_000):
+            last = min(first + 100_000, rows + 1)
+            file.write("".join(f"{unit},{unit % 100000 / 100:.2f}\n" for unit in range(first, last)))
+    return ["input.dat", "pu.dat"]
+
+
+def measured(command, folder):
+    """The seconds and the peak memory, in MiB, of a command in a folder; the least time of some runs."""
+    best = None
+    for _ in range(RUNS):
+        start = time.perf_counter()
+        child = os.fork()
+        if child == 0:
+            os.chdir(folder)
+            null = os.open(os.devnull, os.O_WRONLY)
+            os.dup2(null, 1)
+            os.execv(command[0], command)
+        _, _, usage = os.wait4(child, 0)
+        seconds = time.perf_counter() - start
+        if best is None or seconds < best[0]:
+            best = (seconds, usage.ru_maxrss / 1024)
+    return best
+
+
+def line(title, folder, names):
+    size = sum((folder / name).stat().st_size for name in names) / 2**20
+    seconds, memory = measured([str(PROGRAM), "input.dat", "1"], folder)
+    plain, _ = measured([shutil.which("wc"), "-l", *names], folder)
+    print(f"| {title} | {size:.1f} MiB | {seconds:.3f} s | {memory:.0f} MiB | {plain:.3f} s |", flush=True)
+
+
+def main():
+    if not PROGRAM.exists():
+        print("skipped: run `rt ci` first, it leaves the program at", PROGRAM.relative_to(TOP))
+        return 0
+    print("| Project | Files | Read | Peak memory | Plain pass |\n|---|---|---|---|---|")
+    with tempfile.TemporaryDirectory() as name:
+        for units in (2_000, 20_000, 100_000):
+            folder = pathlib.Path(name) / str(units)
+            folder.mkdir()
+            line(f"{units} units", folder, project(folder, units))
+        folder = pathlib.Path(name) / "long"
+        folder.mkdir()
+        line("a table of 5000000 rows", folder, long_table(folder, 5_000_000))
+    return 0
+
+
+if __name__ == "__main__":
+    sys.exit(main())
