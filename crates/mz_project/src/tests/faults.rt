@@ -54,19 +54,29 @@ fn zones_and_costs_are_refused(rt: HostRuntime) -> Result<(), Fail> {
 }
 
 #[test]
-fn the_61st_zone_is_too_many(rt: HostRuntime) -> Result<(), Fail> {
-    let table = [
-        (60, None),
-        (
-            61,
-            Some(InputFault::Row(Which::Zones, RowFault::TooMany(62))),
-        ),
-    ];
-    for (rows, fault) in table {
-        let text = ids(rt.alloc(), "zoneid,zonename\n", rows)?;
-        let found = fault_of(rt.alloc(), "ZONESNAME f", &[UNITS, ("f", text.as_str())])?;
-        assert!(rt; found == fault, "{rows}");
-    }
+fn the_61st_zone_and_cost_are_too_many(rt: HostRuntime) -> Result<(), Fail> {
+    let sixty = ids(rt.alloc(), "id,name\n", 60)?;
+    let found = fault_of(rt.alloc(), "ZONESNAME f", &[UNITS, ("f", sixty.as_str())])?;
+    assert!(rt; found == None);
+    let more = ids(rt.alloc(), "id,name\n", 61)?;
+    let files = [UNITS, ("f", more.as_str())];
+    let zones = fault_of(rt.alloc(), "ZONESNAME f", &files)?;
+    assert!(rt; zones == Some(InputFault::Row(Which::Zones, RowFault::TooMany(62))));
+    let costs = fault_of(rt.alloc(), "COSTSNAME f", &files)?;
+    assert!(rt; costs == Some(InputFault::Row(Which::Costs, RowFault::TooMany(62))));
+    Ok(())
+}
+
+#[test]
+fn the_100001st_unit_is_too_many(rt: HostRuntime) -> Result<(), Fail> {
+    let text = ids(rt.alloc(), "id,name\n", 100_001)?;
+    let costs = ("f", "id,name\n");
+    let found = fault_of(
+        rt.alloc(),
+        "COSTSNAME f",
+        &[("pu.dat", text.as_str()), costs],
+    )?;
+    assert!(rt; found == Some(InputFault::Row(Which::Units, RowFault::TooMany(100_002))));
     Ok(())
 }
 
@@ -85,6 +95,23 @@ fn units_are_refused(rt: HostRuntime) -> Result<(), Fail> {
         (
             "id,cost\n1.0,10\n",
             RowFault::BadNumber(2, 0, NumFault::NotANumber),
+        ),
+        (
+            "id,cost\n1,10\n,20\n",
+            RowFault::BadNumber(3, 0, NumFault::Empty),
+        ),
+        (
+            "id,cost\n-1,10\n",
+            RowFault::BadNumber(2, 0, NumFault::Negative),
+        ),
+        (
+            "id,cost\n2147483648,10\n",
+            RowFault::BadNumber(2, 0, NumFault::TooLarge),
+        ),
+        ("id,cost\n1,\n", RowFault::BadNumber(2, 1, NumFault::Empty)),
+        (
+            "id,cost\n1,100000000000000.0001\n",
+            RowFault::BadNumber(2, 1, NumFault::TooLarge),
         ),
     ];
     for (text, fault) in table {
@@ -121,6 +148,14 @@ fn zone_costs_are_refused(rt: HostRuntime) -> Result<(), Fail> {
             "zoneid,costid,multiplier\n2,1,1\n1,1,1\n2,1,1\n",
             RowFault::Repeated(4),
         ),
+        (
+            "zoneid,costid,multiplier\n1,1,\n",
+            RowFault::BadNumber(2, 2, NumFault::Empty),
+        ),
+        (
+            "zoneid,costid,multiplier\n1,1,1E13\n",
+            RowFault::BadNumber(2, 2, NumFault::TooLarge),
+        ),
     ];
     for (text, fault) in table {
         let found = fault_of(rt.alloc(), "ZONECOSTNAME f", &[UNITS, ("f", text)])?;
@@ -142,8 +177,16 @@ fn zone_sets_and_locks_are_refused(rt: HostRuntime) -> Result<(), Fail> {
             RowFault::BadNumber(2, 0, NumFault::Empty),
         ),
         (
+            "puid,zoneid\n-1,1\n",
+            RowFault::BadNumber(2, 0, NumFault::Negative),
+        ),
+        (
             "puid,zoneid\n1,x\n",
             RowFault::BadNumber(2, 1, NumFault::NotANumber),
+        ),
+        (
+            "puid,zoneid\n1,1\n2,99999999999\n",
+            RowFault::BadNumber(3, 1, NumFault::TooLarge),
         ),
     ];
     for (text, fault) in table {

@@ -74,6 +74,10 @@ fn another_parameter_file_is_refused(rt: HostRuntime) -> Result<(), Fail> {
             b"refused: input: RUNMODE left out\n".as_slice(),
         ),
         (
+            b"PUNAME pu.dat\nSTARTTEMP 0\nRUNMODE 1\n".as_slice(),
+            b"refused: input: RUNMODE left out\n".as_slice(),
+        ),
+        (
             b"PUNAME pu.dat\nSTARTTEMP 0\n".as_slice(),
             b"refused: input: RUNMODE left out\n".as_slice(),
         ),
