@@ -1,0 +1,6 @@
+pub mod Bounds
+pub mod From
+pub mod Pairs
+pub mod Rates
+pub mod Wanted
+pub mod ZoneBounds

@@ -1,0 +1,56 @@
+//! The file of zone boundary costs: what a boundary between two zones costs.
+ghost use Rattle.std.specs.Prelude.{◌≡◌, ◌≤◌, length, map, unwrap_or, IfOk};
+ghost use Rattle.std.specs.List.{All};
+ghost use Rattle.mz_bounds.specs.From.{GivesFrom};
+ghost use Rattle.mz_bounds.specs.ZoneBounds.{AreListed, AreZoneBounds, is_another, zone_bound_rows};
+
+use crate::pair::read_zone_bound;
+use mz_num::NoMemory;
+use mz_tables::{Ids, RowFault, Table};
+use std::alloc::Global;
+
+/// Reads the zone boundary costs of a table that has the columns of `wants_zone_bounds`, in millionths
+/// at `zone * zones + zone` in both orders; or the first fault of its rows: a zone or a cost that is
+/// no number, a zone that isn't known, two zones that have another cost by an earlier row. What isn't
+/// listed is 0.
+pub fn read_zone_bounds(alloc: Global, table: &Table, zones: &Ids) -> Result<Vec<u64>, RowFault>
+    requires zones { length zones.now ≤ 60 }
+    requires wide { All (λ row. length row ≡ 3) table.now }
+    ensures answer { GivesFrom result (λ rows costs. AreListed (length zones.now) rows costs.items) (zone_bound_rows zones.now table.now) }
+    ensures fit { IfOk result (λ costs. AreZoneBounds (length zones.now) costs.items) }
+{
+    let width = zones.len() as usize;
+    let Ok(mut listed) = vec![in alloc; None::<u64>; width * width] else {
+        return Err(RowFault::NoMemory);
+    };
+    for row in 0..table.rows() {
+        let bound = read_zone_bound(table, row, zones)?;
+        let (low, high) = (bound.low as usize, bound.high as usize);
+        if is_another(listed[low * width + high], bound.number) {
+            return Err(RowFault::Repeated(row + 2));
+        }
+        listed[low * width + high] = Some(bound.number);
+        listed[high * width + low] = Some(bound.number);
+    }
+    let Ok(costs) = listed_costs(alloc, listed.as_slice()) else {
+        return Err(RowFault::NoMemory);
+    };
+    Ok(costs)
+}
+
+/// There is a cost, and it is another one.
+fn is_another(listed: Option<u64>, cost: u64) -> bool
+    ensures { result ≡ is_another listed cost }
+{
+    match listed {
+        Some(other) => other != cost,
+        None => false,
+    }
+}
+
+/// The costs, and 0 where there is none.
+fn listed_costs(alloc: Global, listed: &[Option<u64>]) -> Result<Vec<u64>, NoMemory>
+    ensures { IfOk result (λ costs. costs.items ≡ map (λ cost. unwrap_or cost 0) listed.now) }
+{
+    Ok(listed.iter().map(|cost| cost.unwrap_or(0)).collect(alloc)?)
+}
