@@ -1,0 +1,5 @@
+pub mod ContribLemmas
+pub mod FeatureLemmas
+pub mod ZoneTargetLemmas
+pub mod PairSumLemmas
+pub mod AmountLemmas

@@ -1,0 +1,14 @@
+use Rattle.std.proofs.Common.{List, ap, arith, length, subst}
+use Rattle.mz_targets.specs.Amounts.{AreSums, amount_rows}
+use Rattle.mz_targets.specs.declared.amounts.Amount.{Amount}
+use Rattle.mz_targets.proofs.PairSumLemmas.{gives-sums, sums-fit}
+use Rattle.mz_targets.proofs.amounts.read_amounts.Goals as goal
+
+pub returns-in-Ok-clause-answer : goal.returns-in-Ok-clause-answer
+returns-in-Ok-clause-answer c = gives-sums (amount_rows c.args.units.now c.args.features.now c.args.table.now) c.in_ok-rows.rows.items c.in-Ok.amounts.items c.in_ok-rows.ensures.answer
+    (subst (λ (rows : List Amount). AreSums rows c.in-Ok.amounts.items) c.deref.ensures.value c.in-Ok.ensures.sums)
+
+pub returns-in-Ok-clause-fit : goal.returns-in-Ok-clause-fit
+returns-in-Ok-clause-fit c = sums-fit c.in_ok-rows.rows.items c.in-Ok.amounts.items (length c.args.units.now) (length c.args.features.now) (length c.args.table.now)
+    (subst (λ (rows : List Amount). AreSums rows c.in-Ok.amounts.items) c.deref.ensures.value c.in-Ok.ensures.sums) c.in_ok-rows.ensures.each c.in_ok-rows.ensures.count c.in_ok-rows.ensures.few
+    (omega (arith, c.in-Ok.ensures.few, ap length c.deref.ensures.value))

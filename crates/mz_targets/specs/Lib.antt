@@ -1,0 +1,8 @@
+pub mod Amounts
+pub mod Contribs
+pub mod Features
+pub mod Level
+pub mod Optional
+pub mod PairSums
+pub mod Wanted
+pub mod ZoneTargets

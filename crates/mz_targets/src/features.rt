@@ -1,0 +1,132 @@
+//! The file of features: what is to be held of each.
+ghost use Rattle.std.specs.Prelude.{◌≡◌, ◌<◌, ◌≤◌, ◌+◌, [], length, get_or, IfOk};
+ghost use Rattle.std.specs.List.{All};
+ghost use Rattle.mz_units.specs.Answer.{Answers};
+ghost use Rattle.mz_targets.specs.Features.{IsFeature, IsFeatureList, feature_in, feature_row_in, features_of, left_out_in};
+
+use crate::field::{id_at, mic6_or_default, ten4_or_default, text_at, zero_at};
+use mz_num::Items;
+use mz_tables::{Ids, RowFault, Table};
+use std::alloc::Global;
+
+/// The most features.
+const MOST_FEATURES: u32 = 10_000;
+
+/// A penalty factor of one, in millionths.
+const ONE: u64 = 1_000_000;
+
+/// What is to be held of a feature, and what its shortfall weighs.
+#[derive(Clone, Copy, Debug)]
+pub struct Feature {
+    /// An amount in ten-thousandths, which counts where the proportion is 0.
+    pub target: u64,
+    /// Millionths of the feature's total.
+    pub prop: u64,
+    /// The penalty factor, in millionths.
+    pub spf: u64,
+}
+
+/// The features of a project, by place in the order of their file.
+#[derive(Drop)]
+pub struct FeatureList {
+    pub ids: Ids,
+    /// The name of each feature, which is empty where it has none.
+    pub names: Items<Items<u8>>,
+    pub rows: Items<Feature>,
+}
+
+/// A row of the file.
+#[derive(Drop)]
+pub(crate) struct FeatureRow {
+    pub(crate) id: u32,
+    pub(crate) name: Items<u8>,
+    pub(crate) feature: Feature,
+}
+
+/// Reads the features of a table that has the columns of `wants_features`, or the first fault of its
+/// rows: a row past the 10,000th; an id, target, proportion or penalty factor that is no number; a
+/// left-out column that is no number or not 0; an id that stands earlier. Without a field the target
+/// and the proportion are 0, the penalty factor is 1 and the name is empty.
+pub fn read_features(alloc: Global, table: &Table) -> Result<FeatureList, RowFault>
+    requires { All (λ row. length row ≡ 9) table.now }
+    ensures answer { Answers result (features_of table.now) }
+    ensures fit { IfOk result IsFeatureList }
+{
+    let Ok(mut ids) = Ids::new(alloc) else {
+        return Err(RowFault::NoMemory);
+    };
+    let mut names = Vec::new(alloc);
+    let mut rows = Vec::new(alloc);
+    for row in 0..table.rows() {
+        if row >= MOST_FEATURES {
+            return Err(RowFault::TooMany(row + 2));
+        }
+        let read = read_feature_row(alloc, table, row)?;
+        let Ok(added) = ids.add(alloc, read.id) else {
+            return Err(RowFault::NoMemory);
+        };
+        if !added {
+            return Err(RowFault::Repeated(row + 2));
+        }
+        if rows.push(read.feature).is_err() {
+            return Err(RowFault::NoMemory);
+        }
+        if names.push(read.name).is_err() {
+            return Err(RowFault::NoMemory);
+        }
+    }
+    Ok(FeatureList {
+        ids,
+        names: Items::new(names),
+        rows: Items::new(rows),
+    })
+}
+
+/// Reads a row.
+fn read_feature_row(alloc: Global, table: &Table, row: u32) -> Result<FeatureRow, RowFault>
+    requires row { row < length table.now }
+    requires few { row ≤ 268435456 }
+    requires wide { length (get_or table.now row []) ≡ 9 }
+    ensures answer { Answers result (feature_row_in (row + 2) (get_or table.now row [])) }
+    ensures within { IfOk result (λ row. row.id ≤ 2147483647) }
+    ensures fit { IfOk result (λ row. IsFeature row.feature) }
+{
+    let id = id_at(table, row, 0)?;
+    let feature = read_feature(table, row)?;
+    read_left_out(table, row)?;
+    let Ok(name) = text_at(table, row, 4).to_vec(alloc) else {
+        return Err(RowFault::NoMemory);
+    };
+    Ok(FeatureRow {
+        id,
+        name: Items::new(name),
+        feature,
+    })
+}
+
+/// Reads the numbers of a row.
+fn read_feature(table: &Table, row: u32) -> Result<Feature, RowFault>
+    requires row { row < length table.now }
+    requires few { row ≤ 268435456 }
+    requires wide { length (get_or table.now row []) ≡ 9 }
+    ensures answer { result ≡ feature_in (row + 2) (get_or table.now row []) }
+    ensures fit { IfOk result IsFeature }
+{
+    let target = ten4_or_default(table, row, 1, 0)?;
+    let prop = mic6_or_default(table, row, 2, 0)?;
+    let spf = mic6_or_default(table, row, 3, ONE)?;
+    Ok(Feature { target, prop, spf })
+}
+
+/// Reads the left-out columns of a row: `target2`, `sepnum`, `sepdistance` and `targetocc`.
+fn read_left_out(table: &Table, row: u32) -> Result<u64, RowFault>
+    requires row { row < length table.now }
+    requires few { row ≤ 268435456 }
+    requires wide { length (get_or table.now row []) ≡ 9 }
+    ensures { result ≡ left_out_in (row + 2) (get_or table.now row []) }
+{
+    zero_at(table, row, 5)?;
+    zero_at(table, row, 6)?;
+    zero_at(table, row, 7)?;
+    zero_at(table, row, 8)
+}

@@ -1,0 +1,155 @@
+//! What the fields of a row read as, with the fault's line and column.
+ghost use Rattle.std.specs.Prelude.{◌≡◌, ◌<◌, ◌≤◌, ◌+◌, ◌^◌, [], length, get_or, IfOk};
+ghost use Rattle.mz_units.specs.Columns.{id_in, mic6_in, place_in, ten4_in, text_in};
+ghost use Rattle.mz_targets.specs.Optional.{mic6_or, ten4_or, whole_or, zero_in};
+
+use mz_num::{read_mic6, read_ten4, read_whole};
+use mz_tables::{Ids, RowFault, Table};
+
+/// The greatest id, as in every file of the profile.
+const GREATEST_ID: u64 = 2_147_483_647;
+
+/// The field of a row, and an empty one where the column isn't there.
+pub(crate) fn text_at(table: &Table, row: u32, column: u16) -> &[u8]
+    requires row { row < length table.now }
+    requires column { column < length (get_or table.now row []) }
+    ensures { result.now ≡ text_in (get_or table.now row []) column }
+{
+    match table.field(row, column) {
+        Some(text) => text,
+        None => &[],
+    }
+}
+
+/// The id in a column. Row r stands on line r + 2.
+pub(crate) fn id_at(table: &Table, row: u32, column: u16) -> Result<u32, RowFault>
+    requires row { row < length table.now }
+    requires few { row ≤ 268435456 }
+    requires column { column < length (get_or table.now row []) }
+    ensures id { result ≡ id_in (row + 2) (get_or table.now row []) column }
+    ensures within { IfOk result (λ id. id ≤ 2147483647) }
+{
+    match read_whole(text_at(table, row, column), GREATEST_ID) {
+        Ok(id) => Ok(id as u32),
+        Err(fault) => Err(RowFault::BadNumber(row + 2, column, fault)),
+    }
+}
+
+/// The ten-thousandths in a column.
+pub(crate) fn ten4_at(table: &Table, row: u32, column: u16) -> Result<u64, RowFault>
+    requires row { row < length table.now }
+    requires few { row ≤ 268435456 }
+    requires column { column < length (get_or table.now row []) }
+    ensures number { result ≡ ten4_in (row + 2) (get_or table.now row []) column }
+    ensures within { IfOk result (λ number. number ≤ 10 ^ 18) }
+{
+    match read_ten4(text_at(table, row, column)) {
+        Ok(number) => Ok(number.0),
+        Err(fault) => Err(RowFault::BadNumber(row + 2, column, fault)),
+    }
+}
+
+/// The millionths in a column.
+pub(crate) fn mic6_at(table: &Table, row: u32, column: u16) -> Result<u64, RowFault>
+    requires row { row < length table.now }
+    requires few { row ≤ 268435456 }
+    requires column { column < length (get_or table.now row []) }
+    ensures number { result ≡ mic6_in (row + 2) (get_or table.now row []) column }
+    ensures within { IfOk result (λ number. number ≤ 10 ^ 18) }
+{
+    match read_mic6(text_at(table, row, column)) {
+        Ok(number) => Ok(number.0),
+        Err(fault) => Err(RowFault::BadNumber(row + 2, column, fault)),
+    }
+}
+
+/// The place of a column's id in the file where it belongs.
+pub(crate) fn place_at(table: &Table, row: u32, column: u16, ids: &Ids) -> Result<u32, RowFault>
+    requires row { row < length table.now }
+    requires few { row ≤ 268435456 }
+    requires column { column < length (get_or table.now row []) }
+    ensures place { result ≡ place_in ids.now (row + 2) (get_or table.now row []) column }
+    ensures within { IfOk result (λ place. place < length ids.now) }
+{
+    let id = id_at(table, row, column)?;
+    match ids.place(id) {
+        Some(place) => Ok(place),
+        None => Err(RowFault::Unknown(row + 2, column)),
+    }
+}
+
+/// The ten-thousandths in a column that may be missing.
+pub(crate) fn ten4_or_default(
+    table: &Table,
+    row: u32,
+    column: u16,
+    default: u64,
+) -> Result<u64, RowFault>
+    requires row { row < length table.now }
+    requires few { row ≤ 268435456 }
+    requires column { column < length (get_or table.now row []) }
+    requires default { default ≤ 10 ^ 18 }
+    ensures number { result ≡ ten4_or default (row + 2) (get_or table.now row []) column }
+    ensures within { IfOk result (λ number. number ≤ 10 ^ 18) }
+{
+    if text_at(table, row, column).is_empty() {
+        return Ok(default);
+    }
+    ten4_at(table, row, column)
+}
+
+/// The millionths in a column that may be missing.
+pub(crate) fn mic6_or_default(
+    table: &Table,
+    row: u32,
+    column: u16,
+    default: u64,
+) -> Result<u64, RowFault>
+    requires row { row < length table.now }
+    requires few { row ≤ 268435456 }
+    requires column { column < length (get_or table.now row []) }
+    requires default { default ≤ 10 ^ 18 }
+    ensures number { result ≡ mic6_or default (row + 2) (get_or table.now row []) column }
+    ensures within { IfOk result (λ number. number ≤ 10 ^ 18) }
+{
+    if text_at(table, row, column).is_empty() {
+        return Ok(default);
+    }
+    mic6_at(table, row, column)
+}
+
+/// The whole number in a column that may be missing, which is then 0.
+pub(crate) fn whole_or_zero(
+    table: &Table,
+    row: u32,
+    column: u16,
+    most: u64,
+) -> Result<u64, RowFault>
+    requires row { row < length table.now }
+    requires few { row ≤ 268435456 }
+    requires column { column < length (get_or table.now row []) }
+    ensures number { result ≡ whole_or 0 most (row + 2) (get_or table.now row []) column }
+    ensures within { IfOk result (λ number. number ≤ most) }
+{
+    let text = text_at(table, row, column);
+    if text.is_empty() {
+        return Ok(0);
+    }
+    match read_whole(text, most) {
+        Ok(number) => Ok(number),
+        Err(fault) => Err(RowFault::BadNumber(row + 2, column, fault)),
+    }
+}
+
+/// The 0 in a column of what this project leaves out, where any other number is refused.
+pub(crate) fn zero_at(table: &Table, row: u32, column: u16) -> Result<u64, RowFault>
+    requires row { row < length table.now }
+    requires few { row ≤ 268435456 }
+    requires column { column < length (get_or table.now row []) }
+    ensures { result ≡ zero_in (row + 2) (get_or table.now row []) column }
+{
+    if ten4_or_default(table, row, column, 0)? != 0 {
+        return Err(RowFault::LeftOut(row + 2, column));
+    }
+    Ok(0)
+}

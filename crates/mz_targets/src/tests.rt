@@ -1,0 +1,328 @@
+//! The readers over small tables. Each helper answers a small value, which the tests compare.
+ghost use Rattle.std.specs.Prelude.{◌≤◌, length, IfOk};
+
+use super::*;
+use mz_num::{NoMemory, NumFault};
+use mz_tables::{Ids, RowFault, Table, TableFault};
+use std::alloc::Global;
+use std::test::Fail;
+
+/// Why a small table isn't read.
+#[derive(Clone, Copy, Debug, PartialEq, Eq)]
+enum Refusal {
+    NoMemory,
+    Table(TableFault),
+    Row(RowFault),
+}
+
+impl From<NoMemory> for Refusal {
+    fn from(_error: NoMemory) -> Refusal {
+        Refusal::NoMemory
+    }
+}
+
+impl From<TableFault> for Refusal {
+    fn from(fault: TableFault) -> Refusal {
+        Refusal::Table(fault)
+    }
+}
+
+impl From<RowFault> for Refusal {
+    fn from(fault: RowFault) -> Refusal {
+        Refusal::Row(fault)
+    }
+}
+
+/// The ids 1, 2 and 3.
+fn three_ids(alloc: Global) -> Result<Ids, NoMemory>
+    ensures { IfOk result (λ ids. length ids ≤ 3) }
+{
+    let mut ids = Ids::new(alloc)?;
+    ids.add(alloc, 1)?;
+    ids.add(alloc, 2)?;
+    ids.add(alloc, 3)?;
+    Ok(ids)
+}
+
+fn features_in(alloc: Global, bytes: &[u8]) -> Result<FeatureList, Refusal>
+    requires { length bytes.now ≤ 1000 }
+{
+    let wants = wants_features(alloc)?;
+    let table = Table::read(alloc, bytes, &wants)?;
+    Ok(read_features(alloc, &table)?)
+}
+
+fn amounts_in(alloc: Global, bytes: &[u8], ids: &Ids) -> Result<Vec<(u32, u32, u128)>, Refusal>
+    requires { length bytes.now ≤ 1000 }
+{
+    let wants = wants_amounts(alloc)?;
+    let table = Table::read(alloc, bytes, &wants)?;
+    Ok(read_amounts(alloc, &table, ids, ids)?)
+}
+
+fn fractions_in(alloc: Global, bytes: &[u8], ids: &Ids) -> Result<Vec<u64>, Refusal>
+    requires small { length bytes.now ≤ 1000 }
+    requires few { length ids.now ≤ 3 }
+{
+    let wants = wants_contribs(alloc)?;
+    let table = Table::read(alloc, bytes, &wants)?;
+    Ok(read_contribs(alloc, &table, ids, ids)?)
+}
+
+fn targets_in(alloc: Global, bytes: &[u8], ids: &Ids) -> Result<Vec<ZoneTarget>, Refusal>
+    requires small { length bytes.now ≤ 1000 }
+    requires few { length ids.now ≤ 3 }
+{
+    let wants = wants_zone_targets(alloc)?;
+    let table = Table::read(alloc, bytes, &wants)?;
+    Ok(read_zone_targets(alloc, &table, ids, ids)?)
+}
+
+/// The target, proportion and penalty factor of the one feature.
+fn one_feature(alloc: Global, bytes: &[u8]) -> Result<Option<(u64, u64, u64)>, Refusal>
+    requires { length bytes.now ≤ 1000 }
+{
+    let features = features_in(alloc, bytes)?;
+    Ok(match features.rows.as_slice() {
+        [feature] => Some((feature.target, feature.prop, feature.spf)),
+        _ => None,
+    })
+}
+
+/// The two bytes of the name of the one feature.
+fn one_name(alloc: Global, bytes: &[u8]) -> Result<Option<(u8, u8)>, Refusal>
+    requires { length bytes.now ≤ 1000 }
+{
+    let features = features_in(alloc, bytes)?;
+    let [name] = features.names.as_slice() else {
+        return Ok(None);
+    };
+    Ok(match name.as_slice() {
+        [first, second] => Some((*first, *second)),
+        _ => None,
+    })
+}
+
+/// The sums of the three pairs that are listed.
+fn three_sums(alloc: Global, bytes: &[u8]) -> Result<Option<(u128, u128, u128)>, Refusal>
+    requires { length bytes.now ≤ 1000 }
+{
+    let ids = three_ids(alloc)?;
+    let amounts = amounts_in(alloc, bytes, &ids)?;
+    Ok(match amounts.as_slice() {
+        [first, second, third] => Some((first.2, second.2, third.2)),
+        _ => None,
+    })
+}
+
+/// The unit, the feature and the sum of the one pair that is listed.
+fn one_sum(alloc: Global, bytes: &[u8]) -> Result<Option<(u32, u32, u128)>, Refusal>
+    requires { length bytes.now ≤ 1000 }
+{
+    let ids = three_ids(alloc)?;
+    let amounts = amounts_in(alloc, bytes, &ids)?;
+    Ok(match amounts.as_slice() {
+        [sum] => Some(*sum),
+        _ => None,
+    })
+}
+
+/// The fractions of the second of three features in three zones.
+fn three_fractions(alloc: Global, bytes: &[u8]) -> Result<Option<(u64, u64, u64)>, Refusal>
+    requires { length bytes.now ≤ 1000 }
+{
+    let ids = three_ids(alloc)?;
+    let fractions = fractions_in(alloc, bytes, &ids)?;
+    Ok(match fractions.as_slice() {
+        [_, first, _, _, second, _, _, third, _] => Some((*first, *second, *third)),
+        _ => None,
+    })
+}
+
+/// The zone, the feature, the value and the kind of the one zone target.
+fn one_target(alloc: Global, bytes: &[u8]) -> Result<Option<(u8, u32, u64, u8)>, Refusal>
+    requires { length bytes.now ≤ 1000 }
+{
+    let ids = three_ids(alloc)?;
+    let targets = targets_in(alloc, bytes, &ids)?;
+    Ok(match targets.as_slice() {
+        [target] => Some((target.zone, target.feature, target.value, target.kind)),
+        _ => None,
+    })
+}
+
+#[test]
+fn reads_features_with_their_defaults(rt: HostRuntime) {
+    let rows: [(&[u8], Result<Option<(u64, u64, u64)>, Refusal>); 6] = [
+        (b"id\n1\n", Ok(Some((0, 0, 1000000)))),
+        (b"id,target,fpf\n1,0.5,2\n", Ok(Some((5000, 0, 2000000)))),
+        (b"id,prop,spf\n1,0.3,\n", Ok(Some((0, 300000, 1000000)))),
+        (b"id,spf\n1,0\n", Ok(Some((0, 0, 0)))),
+        (
+            b"id,target,sepnum\n1,3,0.00001\n",
+            Ok(Some((30000, 0, 1000000))),
+        ),
+        (b"id\n1\n2\n", Ok(None)),
+    ];
+    for (bytes, answer) in rows {
+        assert!(rt; bytes.len() <= 1000);
+        assert_eq!(rt; one_feature(rt.alloc(), bytes), answer);
+    }
+}
+
+#[test]
+fn tells_the_first_fault_of_features(rt: HostRuntime) {
+    let rows: [(&[u8], RowFault); 5] = [
+        (b"id,sepnum\n1,2\n", RowFault::LeftOut(2, 6)),
+        (b"id,targetocc\n1,\n2,1\n", RowFault::LeftOut(3, 8)),
+        (
+            b"id,sepnum,target2\n1,2,x\n",
+            RowFault::BadNumber(2, 5, NumFault::NotANumber),
+        ),
+        (
+            b"id,spf,prop\n1,-1,-1\n",
+            RowFault::BadNumber(2, 2, NumFault::Negative),
+        ),
+        (b"id\n1\n2\n1\n", RowFault::Repeated(4)),
+    ];
+    for (bytes, fault) in rows {
+        assert!(rt; bytes.len() <= 1000);
+        assert_eq!(rt; one_feature(rt.alloc(), bytes), Err(Refusal::Row(fault)));
+    }
+}
+
+#[test]
+fn keeps_a_name_that_is_no_text(rt: HostRuntime) {
+    assert_eq!(rt;
+        one_name(rt.alloc(), b"id,name\n1,\xff\xfe\n"),
+        Ok(Some((255, 254)))
+    );
+}
+
+#[test]
+fn reads_the_amounts_of_three_units(rt: HostRuntime) {
+    let rows: [(&[u8], Result<Option<(u128, u128, u128)>, Refusal>); 4] = [
+        (
+            b"species,pu,amount\n1,1,2\n1,2,3\n1,3,4\n",
+            Ok(Some((20000, 30000, 40000))),
+        ),
+        (
+            b"featureid,puid,amount\n1,3,4\n2,1,0.5\n1,1,2\n",
+            Ok(Some((20000, 5000, 40000))),
+        ),
+        (
+            b"species,pu,amount\n1,9,2\n",
+            Err(Refusal::Row(RowFault::Unknown(2, 1))),
+        ),
+        (
+            b"species,pu,amount\n1,1,2\n9,9,x\n",
+            Err(Refusal::Row(RowFault::Unknown(3, 0))),
+        ),
+    ];
+    for (bytes, answer) in rows {
+        assert!(rt; bytes.len() <= 1000);
+        assert_eq!(rt; three_sums(rt.alloc(), bytes), answer);
+    }
+}
+
+#[test]
+fn adds_the_amounts_of_a_pair(rt: HostRuntime) {
+    let rows: [(&[u8], Option<(u32, u32, u128)>); 4] = [
+        (
+            b"featureid,puid,amount\n3,2,1\n3,2,0\n3,2,0.5\n",
+            Some((1, 2, 15000)),
+        ),
+        (
+            b"featureid,puid,amount\n1,1,0\n2,3,7\n1,2,0.00004\n",
+            Some((2, 1, 70000)),
+        ),
+        (b"featureid,puid,amount\n1,1,0\n", None),
+        (b"featureid,puid,amount\n", None),
+    ];
+    for (bytes, answer) in rows {
+        assert!(rt; bytes.len() <= 1000);
+        assert_eq!(rt; one_sum(rt.alloc(), bytes), Ok(answer));
+    }
+}
+
+#[test]
+fn reads_contributions(rt: HostRuntime) {
+    let rows: [(&[u8], Result<Option<(u64, u64, u64)>, Refusal>); 3] = [
+        (
+            b"zoneid,featureid,fraction\n3,2,1\n2,2,0.5\n2,1,0.7\n",
+            Ok(Some((0, 500000, 1000000))),
+        ),
+        (
+            b"zoneid,featureid,fraction\n3,2,1\n2,2,0.5\n3,2,1\n",
+            Err(Refusal::Row(RowFault::Repeated(4))),
+        ),
+        (
+            b"zoneid,featureid,fraction\n1,4,x\n",
+            Err(Refusal::Row(RowFault::Unknown(2, 1))),
+        ),
+    ];
+    for (bytes, answer) in rows {
+        assert!(rt; bytes.len() <= 1000);
+        assert_eq!(rt; three_fractions(rt.alloc(), bytes), answer);
+    }
+}
+
+#[test]
+fn scales_a_zone_target_by_its_type(rt: HostRuntime) {
+    let rows: [(&[u8], Option<(u8, u32, u64, u8)>); 4] = [
+        (
+            b"zoneid,featureid,target,targettype\n3,1,0.1,1\n",
+            Some((2, 0, 100000, 1)),
+        ),
+        (
+            b"zoneid,featureid,target,targettype\n3,1,0.1,0\n",
+            Some((2, 0, 1000, 0)),
+        ),
+        (
+            b"zoneid,featureid,target,targettype\n1,3,2,\n",
+            Some((0, 2, 20000, 0)),
+        ),
+        (b"zoneid,featureid,target\n1,3,2\n", Some((0, 2, 20000, 0))),
+    ];
+    for (bytes, answer) in rows {
+        assert!(rt; bytes.len() <= 1000);
+        assert_eq!(rt; one_target(rt.alloc(), bytes), Ok(answer));
+    }
+}
+
+#[test]
+fn tells_the_first_fault_of_zone_targets(rt: HostRuntime) {
+    let rows: [(&[u8], RowFault); 5] = [
+        (
+            b"zoneid,featureid,target,targettype\n1,1,1,0\n1,2,1,2\n",
+            RowFault::LeftOut(3, 3),
+        ),
+        (
+            b"zoneid,featureid,target,targettype\n1,1,x,y\n",
+            RowFault::BadNumber(2, 2, NumFault::NotANumber),
+        ),
+        (
+            b"zoneid,featureid,target,targettype\n1,1,1,0.5\n",
+            RowFault::BadNumber(2, 3, NumFault::NotANumber),
+        ),
+        (
+            b"zoneid,featureid,target,targettype\n1,1,1e13,1\n",
+            RowFault::BadNumber(2, 2, NumFault::TooLarge),
+        ),
+        (
+            b"zoneid,featureid,target,targettype\n1,1,1,0\n1,1,1,1\n",
+            RowFault::Repeated(3),
+        ),
+    ];
+    for (bytes, fault) in rows {
+        assert!(rt; bytes.len() <= 1000);
+        assert_eq!(rt; one_target(rt.alloc(), bytes), Err(Refusal::Row(fault)));
+    }
+}
+
+#[test]
+fn rounds_a_proportion_of_the_total(rt: HostRuntime) {
+    assert_eq!(rt; level_of(500000, 90000, true), 45000);
+    assert_eq!(rt; level_of(500000, 3, true), 2);
+    assert_eq!(rt; level_of(70000, 90000, false), 70000);
+}
