@@ -4,8 +4,8 @@
     bench/reading.py
 
 It makes projects of 2,000, 20,000 and 100,000 planning units (three zones, two costs, zone costs, zone
-sets, locks), and a unit file of 5,000,000 rows, whose table is read whole before its 100,001st row is
-refused. It runs the program that `rt ci` left at crates/marzone/out/marzone on each, in a folder of its
+sets, locks), and unit files of 5,000,000 rows, short and long ones, whose tables are read whole before the
+100,001st row is refused. It runs the program that `rt ci` left at crates/marzone/out/marzone on each, in a folder of its
 own, and `wc -l` over the same files. A figure is the least of three runs.
 """
 
@@ -54,14 +54,14 @@ def project(folder, units):
     return sorted(texts)
 
 
-def long_table(folder, rows):
-    """Writes a project whose unit file has so many rows."""
+def long_table(folder, rows, note):
+    """Writes a project whose unit file has so many rows, with a note in each that no column asks for."""
     (folder / "input.dat").write_text("PUNAME pu.dat\nSTARTTEMP 0\nRUNMODE 6\n")
     with open(folder / "pu.dat", "w") as file:
-        file.write("id,cost\n")
+        file.write("id,cost,note\n")
         for first in range(1, rows + 1, 100_000):
             last = min(first + 100_000, rows + 1)
-            file.write("".join(f"{unit},{unit % 100000 / 100:.2f}\n" for unit in range(first, last)))
+            file.write("".join(f"{unit},{unit % 100000 / 100:.2f},{note}\n" for unit in range(first, last)))
     return ["input.dat", "pu.dat"]
 
 
@@ -100,9 +100,10 @@ def main():
             folder = pathlib.Path(name) / str(units)
             folder.mkdir()
             line(f"{units} units", folder, project(folder, units))
-        folder = pathlib.Path(name) / "long"
-        folder.mkdir()
-        line("a table of 5000000 rows", folder, long_table(folder, 5_000_000))
+        for title, note in (("5000000 rows", ""), ("5000000 long rows", "n" * 38)):
+            folder = pathlib.Path(name) / title.replace(" ", "_")
+            folder.mkdir()
+            line(title, folder, long_table(folder, 5_000_000, note))
     return 0
 
 
