@@ -46,7 +46,7 @@ apart : (a b c d : ℕ) → (a < c) ⊎ ((a ≡ c) × (b < d)) → ((a == c) && 
 apart a b c d (inl less) = first_false a b c d (λ e. omega arith)
 apart a b c d (inr h) = second_false a b c d (λ e. let k = h.1 in omega arith)
 
-apart' : (a b c d : ℕ) → (a < c) ⊎ ((a ≡ c) × (b < d)) → ((c == a) && (d == b)) ≡ false
+pub apart' : (a b c d : ℕ) → (a < c) ⊎ ((a ≡ c) × (b < d)) → ((c == a) && (d == b)) ≡ false
 apart' a b c d (inl less) = first_false c d a b (λ e. omega arith)
 apart' a b c d (inr h) = second_false c d a b (λ e. let k = h.1 in omega arith)
 

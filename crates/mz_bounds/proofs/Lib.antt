@@ -2,5 +2,6 @@ pub mod AddedLemmas
 pub mod BoundLemmas
 pub mod FitLemmas
 pub mod NeighbourLemmas
+pub mod OneListLemmas
 pub mod OuterLemmas
 pub mod ZoneBoundLemmas
