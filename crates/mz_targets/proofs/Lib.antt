@@ -2,4 +2,5 @@ pub mod ContribLemmas
 pub mod FeatureLemmas
 pub mod ZoneTargetLemmas
 pub mod PairSumLemmas
+pub mod OneListLemmas
 pub mod AmountLemmas
