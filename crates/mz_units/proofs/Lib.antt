@@ -1,7 +1,3 @@
-pub mod AnswerLemmas
-pub mod RowLemmas
-pub mod IdLemmas
-pub mod KeyedLemmas
 pub mod NamedLemmas
 pub mod UnitLemmas
 pub mod ZoneCostLemmas

@@ -9,11 +9,11 @@ use Rattle.mz_tables.specs.Ids.{has_id}
 use Rattle.mz_tables.specs.Table.{Row}
 use Rattle.mz_tables.specs.declared.fault.RowFault.{RowFault}
 use Rattle.mz_tables.specs.declared.fault.RowFault.TheVariants.{Repeated}
-use Rattle.mz_units.specs.Rows.{RowReader, go_on, items_of, once}
+use Rattle.mz_rows.specs.Rows.{RowReader, go_on, items_of, once}
 use Rattle.mz_units.specs.ZoneCosts.{multipliers, multipliers_of, pair_place, zone_cost_in, zone_cost_rows}
 use Rattle.mz_units.specs.declared.zone_costs.ZoneCost.{ZoneCost}
-use Rattle.mz_units.proofs.KeyedLemmas.{AreMarks, marks-none, marks-at, marks-more, values-none, values-more}
-use Rattle.mz_units.proofs.RowLemmas.{HasRead, has_read-none, has_read-more, has_read-fault, has_read-all, once-fault, once-new, once-repeated, by_line, by_line-is}
+use Rattle.mz_rows.proofs.KeyedLemmas.{AreMarks, marks-none, marks-at, marks-more, values-none, values-more}
+use Rattle.mz_rows.proofs.RowLemmas.{HasRead, has_read-none, has_read-more, has_read-fault, has_read-all, once-fault, once-new, once-repeated, by_line, by_line-is}
 
 abbrev multiplier_of : ZoneCost → ℕ
 multiplier_of row = row.multiplier

@@ -14,11 +14,11 @@ use Rattle.mz_tables.specs.Ids.{has_id}
 use Rattle.mz_tables.specs.Table.{Row}
 use Rattle.mz_tables.specs.declared.fault.RowFault.{RowFault}
 use Rattle.mz_tables.specs.declared.fault.RowFault.TheVariants.{TooMany}
-use Rattle.mz_units.specs.Rows.{RowReader, go_on, items_of, at_most}
+use Rattle.mz_rows.specs.Rows.{RowReader, go_on, items_of, at_most}
 use Rattle.mz_units.specs.ZoneSets.{IsZoneSet, listed_zones, unit_zone_in, zone_set, zone_set_rows, zone_sets, zone_sets_of}
 use Rattle.mz_units.specs.declared.unit_zone.UnitZone.{UnitZone}
-use Rattle.mz_units.proofs.KeyedLemmas.{AreMarks, has_id-map, length-list_below, get_or-list_below, list_below-same, list_below-set, marks-none, marks-at, marks-more}
-use Rattle.mz_units.proofs.RowLemmas.{HasRead, has_read-none, has_read-more, has_read-fault, has_read-all, at_most-past, at_most-within, by_line, by_line-is}
+use Rattle.mz_rows.proofs.KeyedLemmas.{AreMarks, has_id-map, length-list_below, get_or-list_below, list_below-same, list_below-set, marks-none, marks-at, marks-more}
+use Rattle.mz_rows.proofs.RowLemmas.{HasRead, has_read-none, has_read-more, has_read-fault, has_read-all, at_most-past, at_most-within, by_line, by_line-is}
 
 -- ---- sets of zones
 

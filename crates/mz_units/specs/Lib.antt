@@ -1,9 +1,5 @@
-pub mod Answer
-pub mod Columns
-pub mod Keyed
 pub mod Locks
 pub mod Named
-pub mod Rows
 pub mod Terms
 pub mod UnitRows
 pub mod Wanted

@@ -4,8 +4,8 @@ use Rattle.std.specs.Int.{bit_at}
 use Rattle.mz_tables.specs.Table.{Row}
 use Rattle.mz_tables.specs.declared.fault.RowFault.{RowFault}
 use Rattle.mz_tables.specs.declared.fault.RowFault.TheVariants.{LockConflict}
-use Rattle.mz_units.specs.Keyed.{values_below}
-use Rattle.mz_units.specs.Rows.{RowReader, go_on, items_of, line_behind, once}
+use Rattle.mz_rows.specs.Keyed.{values_below}
+use Rattle.mz_rows.specs.Rows.{RowReader, go_on, items_of, line_behind, once}
 use Rattle.mz_units.specs.ZoneSets.{unit_zone_in}
 use Rattle.mz_units.specs.declared.unit_zone.UnitZone.{UnitZone}
 

@@ -4,8 +4,8 @@ use Rattle.std.specs.List.{All, AllPairs, flat_map}
 use Rattle.mz_num.specs.NumberText.{ten4_of}
 use Rattle.mz_tables.specs.Table.{Row}
 use Rattle.mz_tables.specs.declared.fault.RowFault.{RowFault}
-use Rattle.mz_units.specs.Columns.{id_in, number_at, text_of}
-use Rattle.mz_units.specs.Rows.{at_most, go_on, items_of, line_behind, once}
+use Rattle.mz_rows.specs.Columns.{id_in, number_at, text_of}
+use Rattle.mz_rows.specs.Rows.{at_most, go_on, items_of, line_behind, once}
 use Rattle.mz_units.specs.declared.units.UnitList.{UnitList}
 use Rattle.mz_units.specs.declared.units.UnitRow.{UnitRow}
 

@@ -1,10 +1,7 @@
 -- The columns of the files of zones, costs, units, zone costs, zone sets and locks.
-use Rattle.std.specs.Prelude.{ℕ, Bool, true, false, List, [], ◌∷◌, map, codes}
+use Rattle.std.specs.Prelude.{ℕ, true, false, List, [], ◌∷◌, map, codes}
 use Rattle.mz_tables.specs.declared.wants.Want.{Want}
-
--- a column by its name, and its other name, which is none where it is empty
-abbrev pub want : List ℕ → List ℕ → Bool → Want
-want name other needed = record { name = name; other = other; needed = needed }
+use Rattle.mz_rows.specs.Wanted.{want}
 
 abbrev pub zone_columns : List Want
 zone_columns = want (codes "zoneid") (codes "id") true ∷ want (codes "zonename") (codes "name") false ∷ []

@@ -3,9 +3,9 @@ use Rattle.std.specs.Prelude.{ℕ, ◌-◌, ◌^◌, ◌==◌, ◌<◌, bit_or, 
 use Rattle.std.specs.List.{list_any}
 use Rattle.mz_tables.specs.Table.{Row}
 use Rattle.mz_tables.specs.declared.fault.RowFault.{RowFault}
-use Rattle.mz_units.specs.Columns.{place_in}
-use Rattle.mz_units.specs.Keyed.{list_below}
-use Rattle.mz_units.specs.Rows.{at_most, go_on, items_of, line_behind}
+use Rattle.mz_rows.specs.Columns.{place_in}
+use Rattle.mz_rows.specs.Keyed.{list_below}
+use Rattle.mz_rows.specs.Rows.{at_most, go_on, items_of, line_behind}
 use Rattle.mz_units.specs.declared.unit_zone.UnitZone.{UnitZone}
 
 -- a row's unit and zone, by place

@@ -2,7 +2,6 @@
 //! that come of them. Each reader answers exactly the rows of its table, or their first fault.
 #![tactic(auto)]
 
-mod field;
 mod locks;
 mod named;
 mod terms;

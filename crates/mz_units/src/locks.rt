@@ -1,7 +1,7 @@
 //! The file of locks: a unit that is locked to a zone.
 ghost use Rattle.std.specs.Prelude.{ℕ, ◌≡◌, ◌<◌, ◌≤◌, length, slice_index, IfOk};
 ghost use Rattle.std.specs.List.{All};
-ghost use Rattle.mz_units.specs.Answer.{Gives};
+ghost use Rattle.mz_rows.specs.Answer.{Gives};
 ghost use Rattle.mz_units.specs.Locks.{IsNarrowed, locked_sets_of};
 ghost use Rattle.mz_units.specs.ZoneSets.{IsZoneSet};
 

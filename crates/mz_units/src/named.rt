@@ -1,11 +1,11 @@
 //! The files of zones and of costs: ids with names.
 ghost use Rattle.std.specs.Prelude.{◌≡◌, ◌<◌, ◌≤◌, ◌+◌, [], length, get_or, IfOk};
 ghost use Rattle.std.specs.List.{All};
-ghost use Rattle.mz_units.specs.Answer.{Answers};
+ghost use Rattle.mz_rows.specs.Answer.{Answers};
 ghost use Rattle.mz_units.specs.Named.{IsNamedList, costs_of, named_in, named_list_of, zones_of};
 
-use crate::field::{id_at, text_at};
 use mz_num::Items;
+use mz_rows::{id_at, text_at};
 use mz_tables::{Ids, RowFault, Table};
 use std::alloc::Global;
 

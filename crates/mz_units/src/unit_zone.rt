@@ -2,7 +2,7 @@
 ghost use Rattle.std.specs.Prelude.{◌≡◌, ◌<◌, ◌≤◌, ◌+◌, [], length, get_or, IfOk};
 ghost use Rattle.mz_units.specs.ZoneSets.{unit_zone_in};
 
-use crate::field::place_at;
+use mz_rows::place_at;
 use mz_tables::{Ids, RowFault, Table};
 
 /// A unit and a zone, by place.

@@ -1,12 +1,12 @@
 //! The file of planning units and their costs.
 ghost use Rattle.std.specs.Prelude.{◌≡◌, ◌<◌, ◌≤◌, ◌+◌, ◌^◌, [], drop, length, get_or, IfOk};
 ghost use Rattle.std.specs.List.{All};
-ghost use Rattle.mz_units.specs.Answer.{Answers, Gives};
+ghost use Rattle.mz_rows.specs.Answer.{Answers, Gives};
 ghost use Rattle.mz_units.specs.UnitRows.{IsUnitList, costs_in, unit_in, units_of};
 
-use crate::field::{id_at, ten4_at};
 use crate::named::CostList;
 use mz_num::Items;
+use mz_rows::{id_at, ten4_at};
 use mz_tables::{Ids, RowFault, Table};
 use std::alloc::Global;
 

@@ -1,7 +1,7 @@
 //! The file of zone sets: which zones a unit is limited to.
 ghost use Rattle.std.specs.Prelude.{◌≡◌, ◌<◌, ◌≤◌, length, IfOk};
 ghost use Rattle.std.specs.List.{All};
-ghost use Rattle.mz_units.specs.Answer.{Gives};
+ghost use Rattle.mz_rows.specs.Answer.{Gives};
 ghost use Rattle.mz_units.specs.ZoneSets.{IsZoneSet, zone_sets_of};
 
 use crate::unit_zone::read_unit_zone;

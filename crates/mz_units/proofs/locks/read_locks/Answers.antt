@@ -3,7 +3,7 @@ use Rattle.std.proofs.lemmas.Option.{get_or_from_slice_get}
 use Rattle.std.proofs.lemmas.Nat.{one_shl}
 use Rattle.std.proofs.lemmas.Result.{err_from_is_err_and}
 use Rattle.mz_units.specs.Locks.{locked_sets_of}
-use Rattle.mz_units.proofs.AnswerLemmas.{fault-is}
+use Rattle.mz_rows.proofs.AnswerLemmas.{fault-is}
 use Rattle.mz_units.proofs.LockLemmas.{locks-none, locks-fault, locks-repeated, locks-conflict, locks-more, locks-all, allowed-is, outside-is}
 use Rattle.mz_units.proofs.locks.read_locks.Goals as goal
 

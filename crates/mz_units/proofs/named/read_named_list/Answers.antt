@@ -2,7 +2,7 @@ use Rattle.std.proofs.Common.{arith, rules, subst, sym}
 use Rattle.std.proofs.lemmas.Result.{err_from_is_err_and}
 use Rattle.mz_tables.specs.Ids.{has_id}
 use Rattle.mz_units.specs.Named.{IsNamedList}
-use Rattle.mz_units.proofs.IdLemmas.{was-known, was-new}
+use Rattle.mz_rows.proofs.IdLemmas.{was-known, was-new}
 use Rattle.mz_units.proofs.NamedLemmas.{named-none, named-too_many, named-fault, named-repeated, named-more, named-all}
 use Rattle.mz_units.proofs.named.read_named_list.Goals as goal
 

@@ -1,7 +1,7 @@
 use Rattle.std.proofs.Common.{arith, rules}
 use Rattle.std.proofs.lemmas.Result.{err_from_is_err_and}
 use Rattle.mz_tables.specs.Ids.{has_id}
-use Rattle.mz_units.proofs.IdLemmas.{was-known, was-new}
+use Rattle.mz_rows.proofs.IdLemmas.{was-known, was-new}
 use Rattle.mz_units.proofs.UnitLemmas.{units-none, units-too_many, units-fault, units-repeated, units-more, units-all}
 use Rattle.mz_units.proofs.units.read_units.Goals as goal
 

@@ -1,7 +1,8 @@
 use Rattle.std.proofs.Common.{◌≡◌, ℕ, suc, ◌+◌, ◌<◌, ◌≤◌, true, List, [], ◌∷◌, ◌++◌, length, get_or, map, take, ap, arith, codes, length-take-le, sym, ◌∙◌}
 use Rattle.std.proofs.lemmas.List.{length-map, map_more, take_all}
 use Rattle.mz_tables.specs.declared.wants.Want.{Want}
-use Rattle.mz_units.specs.Wanted.{unit_columns, want}
+use Rattle.mz_units.specs.Wanted.{unit_columns}
+use Rattle.mz_rows.specs.Wanted.{want}
 use Rattle.mz_units.proofs.wanted.wants_units.Goals as goal
 
 few_columns : (names : List (List ℕ)) (i : ℕ) (wants : List Want) → i < length names → length names ≤ 60 → wants ≡ unit_columns (take i names) → length wants < 65535

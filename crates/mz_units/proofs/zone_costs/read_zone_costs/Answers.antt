@@ -1,7 +1,7 @@
 use Rattle.std.proofs.Common.{◌+◌, ◌*◌, ap, arith, rules, sym, ◌∙◌}
 use Rattle.std.proofs.lemmas.Result.{err_from_is_err_and}
 use Rattle.mz_units.specs.ZoneCosts.{multipliers_of}
-use Rattle.mz_units.proofs.AnswerLemmas.{fault-is}
+use Rattle.mz_rows.proofs.AnswerLemmas.{fault-is}
 use Rattle.mz_units.proofs.ZoneCostLemmas.{zone_costs-none, zone_costs-fault, zone_costs-repeated, zone_costs-more, zone_costs-all}
 use Rattle.mz_units.proofs.zone_costs.read_zone_costs.Goals as goal
 

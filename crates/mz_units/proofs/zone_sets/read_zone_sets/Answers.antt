@@ -3,7 +3,7 @@ use Rattle.std.proofs.lemmas.List.{get_or_read}
 use Rattle.std.proofs.lemmas.Nat.{one_shl}
 use Rattle.std.proofs.lemmas.Result.{err_from_is_err_and}
 use Rattle.mz_units.specs.ZoneSets.{zone_sets_of}
-use Rattle.mz_units.proofs.AnswerLemmas.{fault-is}
+use Rattle.mz_rows.proofs.AnswerLemmas.{fault-is}
 use Rattle.mz_units.proofs.ZoneSetLemmas.{length-zone_sets, zone_sets-none, zone_sets-too_many, zone_sets-fault, zone_sets-more, zone_sets-all}
 use Rattle.mz_units.proofs.zone_sets.read_zone_sets.Goals as goal
 use Rattle.mz_units.proofs.zone_sets.read_zone_sets.Goals.{then-index, else-index}

@@ -8,7 +8,7 @@ use Rattle.mz_tables.specs.Ids.{has_id}
 use Rattle.mz_tables.specs.Table.{Row}
 use Rattle.mz_tables.specs.declared.fault.RowFault.{RowFault}
 use Rattle.mz_tables.specs.declared.fault.RowFault.TheVariants.{TooMany, Repeated}
-use Rattle.mz_units.specs.Rows.{RowReader, go_on, line_behind, items_behind, items_of, at_most, unless_earlier, once}
+use Rattle.mz_rows.specs.Rows.{RowReader, go_on, line_behind, items_behind, items_of, at_most, unless_earlier, once}
 
 -- the rows before this one have been read, and these are their items
 pub record HasRead {Item : Type 0} (read : RowReader Item) (rows : List Row) (earlier : List Item) (row : ℕ) : Type 0 where

@@ -6,7 +6,7 @@ use Rattle.mz_tables.specs.Ids.{place_of_id}
 use Rattle.mz_tables.specs.Table.{Row}
 use Rattle.mz_tables.specs.declared.fault.RowFault.{RowFault}
 use Rattle.mz_tables.specs.declared.fault.RowFault.TheVariants.{BadNumber, Unknown}
-use Rattle.mz_units.specs.Rows.{go_on}
+use Rattle.mz_rows.specs.Rows.{go_on}
 
 -- the text of a field, which is empty where the column isn't there
 abbrev pub text_of : Option (List ℕ) → List ℕ

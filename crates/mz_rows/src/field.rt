@@ -1,6 +1,6 @@
 //! What the fields of a row read as, with the fault's line and column.
 ghost use Rattle.std.specs.Prelude.{◌≡◌, ◌<◌, ◌≤◌, ◌+◌, ◌^◌, [], length, get_or, IfOk};
-ghost use Rattle.mz_units.specs.Columns.{id_in, mic6_in, place_in, ten4_in, text_in};
+ghost use Rattle.mz_rows.specs.Columns.{id_in, mic6_in, place_in, ten4_in, text_in};
 
 use mz_num::{read_mic6, read_ten4, read_whole};
 use mz_tables::{Ids, RowFault, Table};
@@ -9,7 +9,7 @@ use mz_tables::{Ids, RowFault, Table};
 const GREATEST_ID: u64 = 2_147_483_647;
 
 /// The field of a row, and an empty one where the column isn't there.
-pub(crate) fn text_at(table: &Table, row: u32, column: u16) -> &[u8]
+pub fn text_at(table: &Table, row: u32, column: u16) -> &[u8]
     requires row { row < length table.now }
     requires column { column < length (get_or table.now row []) }
     ensures { result.now ≡ text_in (get_or table.now row []) column }
@@ -21,7 +21,7 @@ pub(crate) fn text_at(table: &Table, row: u32, column: u16) -> &[u8]
 }
 
 /// The id in a column. Row r stands on line r + 2.
-pub(crate) fn id_at(table: &Table, row: u32, column: u16) -> Result<u32, RowFault>
+pub fn id_at(table: &Table, row: u32, column: u16) -> Result<u32, RowFault>
     requires row { row < length table.now }
     requires few { row ≤ 268435456 }
     requires column { column < length (get_or table.now row []) }
@@ -35,7 +35,7 @@ pub(crate) fn id_at(table: &Table, row: u32, column: u16) -> Result<u32, RowFaul
 }
 
 /// The ten-thousandths in a column.
-pub(crate) fn ten4_at(table: &Table, row: u32, column: u16) -> Result<u64, RowFault>
+pub fn ten4_at(table: &Table, row: u32, column: u16) -> Result<u64, RowFault>
     requires row { row < length table.now }
     requires few { row ≤ 268435456 }
     requires column { column < length (get_or table.now row []) }
@@ -49,7 +49,7 @@ pub(crate) fn ten4_at(table: &Table, row: u32, column: u16) -> Result<u64, RowFa
 }
 
 /// The millionths in a column.
-pub(crate) fn mic6_at(table: &Table, row: u32, column: u16) -> Result<u64, RowFault>
+pub fn mic6_at(table: &Table, row: u32, column: u16) -> Result<u64, RowFault>
     requires row { row < length table.now }
     requires few { row ≤ 268435456 }
     requires column { column < length (get_or table.now row []) }
@@ -63,7 +63,7 @@ pub(crate) fn mic6_at(table: &Table, row: u32, column: u16) -> Result<u64, RowFa
 }
 
 /// The place of a column's id in the file where it belongs.
-pub(crate) fn place_at(table: &Table, row: u32, column: u16, ids: &Ids) -> Result<u32, RowFault>
+pub fn place_at(table: &Table, row: u32, column: u16, ids: &Ids) -> Result<u32, RowFault>
     requires row { row < length table.now }
     requires few { row ≤ 268435456 }
     requires column { column < length (get_or table.now row []) }

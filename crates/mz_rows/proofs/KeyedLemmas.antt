@@ -8,7 +8,7 @@ use Rattle.std.proofs.lemmas.List.{get_or-replicate, get_or-set_other, get_or-se
 use Rattle.std.proofs.lemmas.List.Folds.{list_any-append}
 use Rattle.std.proofs.lemmas.List.FromFn.{length-map-range_with_len, get_or-map-range_with_len, fill_by_all}
 use Rattle.mz_tables.specs.Ids.{has_id}
-use Rattle.mz_units.specs.Keyed.{list_below, value_at, values_below}
+use Rattle.mz_rows.specs.Keyed.{list_below, value_at, values_below}
 
 -- ---- lists by place
 

@@ -2,7 +2,7 @@
 use Rattle.std.proofs.Common.{◌≡◌, Result, Err}
 use Rattle.mz_tables.specs.declared.fault.RowFault.{RowFault}
 use Rattle.mz_tables.specs.declared.fault.RowFault.TheVariants.{TooMany, BadNumber, LeftOut, Unknown, Repeated, LockConflict, NoMemory}
-use Rattle.mz_units.specs.Answer.{IsFaultOf}
+use Rattle.mz_rows.specs.Answer.{IsFaultOf}
 
 -- a fault that the definition has
 pub fault-is : {X : Type 0} (fault : RowFault) (made : Result X RowFault) → made ≡ Err fault → IsFaultOf fault made
