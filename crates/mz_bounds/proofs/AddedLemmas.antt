@@ -11,7 +11,8 @@ use Rattle.std.proofs.lemmas.List.Folds.{list_any-append, list_any_at, list_any_
 use Rattle.std.proofs.lemmas.List.Quantifiers.{all_pairs_push}
 use Rattle.std.proofs.lemmas.List.Sorted.{list_any-IsPermutation, sum_by-IsPermutation}
 use Rattle.std.proofs.lemmas.List.Sums.{sum_by-cons, sum_by_push, sum_by-le}
-use Rattle.mz_bounds.specs.Bounds.{AreAdded, Edge, IsBefore, added_length, joins, length_for}
+use Rattle.mz_rows.specs.Pairs.{IsBefore}
+use Rattle.mz_bounds.specs.Bounds.{AreAdded, Edge, added_length, joins, length_for}
 use Rattle.mz_bounds.specs.Pairs.{names}
 use Rattle.mz_bounds.specs.declared.pair.PairRow.{PairRow}
 
@@ -30,11 +31,11 @@ first_false a b c d ne = ap (λ t. t && (b == d)) (ne_eqb a c ne)
 second_false : (a b c d : ℕ) → (b ≡ d → ⊥) → ((a == c) && (b == d)) ≡ false
 second_false a b c d ne = and_false (a == c) (b == d) (ne_eqb b d ne)
 
-and_left : (s t : Bool) → (s && t) ≡ true → s ≡ true
+pub and_left : (s t : Bool) → (s && t) ≡ true → s ≡ true
 and_left true t e = refl
 and_left false t e = e
 
-and_right : (s t : Bool) → (s && t) ≡ true → t ≡ true
+pub and_right : (s t : Bool) → (s && t) ≡ true → t ≡ true
 and_right true t e = e
 and_right false t e = cc
 
@@ -46,7 +47,7 @@ apart : (a b c d : ℕ) → (a < c) ⊎ ((a ≡ c) × (b < d)) → ((a == c) && 
 apart a b c d (inl less) = first_false a b c d (λ e. omega arith)
 apart a b c d (inr h) = second_false a b c d (λ e. let k = h.1 in omega arith)
 
-pub apart' : (a b c d : ℕ) → (a < c) ⊎ ((a ≡ c) × (b < d)) → ((c == a) && (d == b)) ≡ false
+apart' : (a b c d : ℕ) → (a < c) ⊎ ((a ≡ c) × (b < d)) → ((c == a) && (d == b)) ≡ false
 apart' a b c d (inl less) = first_false c d a b (λ e. omega arith)
 apart' a b c d (inr h) = second_false c d a b (λ e. let k = h.1 in omega arith)
 

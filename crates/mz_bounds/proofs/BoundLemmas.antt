@@ -5,8 +5,8 @@ use Rattle.std.proofs.lemmas.List.Elements.{All-nil, All-push}
 use Rattle.mz_tables.specs.Table.{Row}
 use Rattle.mz_tables.specs.declared.fault.RowFault.{RowFault}
 use Rattle.mz_tables.specs.declared.fault.RowFault.TheVariants.{TooMany}
-use Rattle.mz_units.specs.Rows.{RowReader, at_most}
-use Rattle.mz_units.proofs.RowLemmas.{HasRead, at_most-past, at_most-within, by_line, by_line-is, has_read-all, has_read-fault, has_read-more, has_read-none}
+use Rattle.mz_rows.specs.Rows.{RowReader, at_most}
+use Rattle.mz_rows.proofs.RowLemmas.{HasRead, at_most-past, at_most-within, by_line, by_line-is, has_read-all, has_read-fault, has_read-more, has_read-none}
 use Rattle.mz_bounds.specs.Bounds.{bound_rows}
 use Rattle.mz_bounds.specs.Pairs.{bound_in}
 use Rattle.mz_bounds.specs.declared.pair.PairRow.{PairRow}

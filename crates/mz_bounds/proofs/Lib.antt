@@ -2,6 +2,5 @@ pub mod AddedLemmas
 pub mod BoundLemmas
 pub mod FitLemmas
 pub mod NeighbourLemmas
-pub mod OneListLemmas
 pub mod OuterLemmas
 pub mod ZoneBoundLemmas

@@ -4,8 +4,8 @@ use Rattle.std.specs.List.{All}
 use Rattle.std.proofs.Math.ListN.{replicate}
 use Rattle.std.proofs.lemmas.List.{take_all, take_more}
 use Rattle.std.proofs.lemmas.List.Elements.{All-take}
-use Rattle.mz_units.specs.Keyed.{list_below}
-use Rattle.mz_units.proofs.KeyedLemmas.{get_or-list_below, length-list_below, list_below-from, list_below-same, list_below-set}
+use Rattle.mz_rows.specs.Keyed.{list_below}
+use Rattle.mz_rows.proofs.KeyedLemmas.{get_or-list_below, length-list_below, list_below-from, list_below-same, list_below-set}
 use Rattle.mz_bounds.specs.Bounds.{added_length}
 use Rattle.mz_bounds.specs.declared.pair.PairRow.{PairRow}
 use Rattle.mz_bounds.proofs.AddedLemmas.{added-le, added-other, added-same, apart_pair, both_true, other_pair}

@@ -1,41 +1,35 @@
 -- The rows of zone boundary costs, while they are read, and what comes of them.
-use Rattle.std.proofs.Common.{◌≡◌, ℕ, ◌+◌, ◌*◌, ◌^◌, ◌<◌, ◌≤◌, ◌==◌, Bool, true, false, cond, List, [], ◌∷◌, ◌++◌, length, get_or, set, map, Option, Some, None, Result, Ok, Err, refl, ap, sym, ◌∙◌, subst, arith, inl, inr}
+use Rattle.std.proofs.Common.{◌≡◌, ℕ, ◌+◌, ◌*◌, ◌/◌, ◌%◌, ◌^◌, ◌<◌, ◌≤◌, ◌==◌, Bool, true, false, cond, List, [], ◌∷◌, ◌++◌, length, get_or, set, map, Option, Some, None, Result, Ok, Err, refl, ap, sym, ◌∙◌, subst, arith, inl, inr}
 use Rattle.std.specs.Prelude.{◌⊎◌, min, max, option_map, unwrap_or}
 use Rattle.std.specs.List.{All, find}
 use Rattle.std.specs.Option.{option_or}
 use Rattle.std.proofs.Math.ListN.{length-set, replicate}
-use Rattle.std.proofs.Math.Nat.{mul-le-mul_right}
 use Rattle.std.proofs.lemmas.Bool.{cases_eq, cases_lt, eqb-true, false≢true, not-false}
 use Rattle.std.proofs.lemmas.List.{get_or-map, get_or_default, get_or-replicate, get_or-set_other, get_or-set_same, length-map, length-replicate}
 use Rattle.std.proofs.lemmas.List.Elements.{All-map, All-replicate, All-set}
 use Rattle.std.proofs.lemmas.List.Folds.{find-append}
-use Rattle.std.proofs.lemmas.Nat.{mul-add-lt}
 use Rattle.mz_tables.specs.Table.{Row}
 use Rattle.mz_tables.specs.declared.fault.RowFault.{RowFault}
 use Rattle.mz_tables.specs.declared.fault.RowFault.TheVariants.{Repeated}
-use Rattle.mz_units.specs.Rows.{RowReader, go_on, line_behind}
-use Rattle.mz_units.proofs.RowLemmas.{HasRead, by_line, by_line-is, has_read-all, has_read-fault, has_read-more, has_read-none}
+use Rattle.mz_rows.specs.Rows.{RowReader, go_on, line_behind}
+use Rattle.mz_rows.proofs.KeyedLemmas.{list_below-from}
+use Rattle.mz_rows.proofs.PairLemmas.{first-below, pair-below, pair-first, pair-second, pair-whole, second-below}
+use Rattle.mz_rows.proofs.RowLemmas.{HasRead, by_line, by_line-is, has_read-all, has_read-fault, has_read-more, has_read-none}
 use Rattle.mz_bounds.specs.Pairs.{names, zone_bound_in}
-use Rattle.mz_bounds.specs.ZoneBounds.{AreListed, AreZoneBounds, IsEven, cost_at, is_another, settled, unless_another, zone_bound_rows}
+use Rattle.mz_bounds.specs.ZoneBounds.{AreZoneBounds, IsEven, cost_at, is_another, settled, unless_another, zone_bound_rows, zone_bounds_of, zone_costs}
 use Rattle.mz_bounds.specs.declared.pair.PairRow.{PairRow}
 use Rattle.mz_bounds.proofs.AddedLemmas.{both_are, both_true}
 
 -- ---- places of two zones
 
 same_first : (n a b c d : ℕ) → b < n → d < n → a * n + b ≡ c * n + d → a ≡ c
-same_first n a b c d h k e = elim (cases_lt a c) [
-  | inl less ↦ (let step : (a + 1) * n ≤ c * n = mul-le-mul_right n (omega arith) in absurd (omega arith))
-  | inr most ↦ (elim (cases_lt c a) [
-    | inl more ↦ (let step : (c + 1) * n ≤ a * n = mul-le-mul_right n (omega arith) in absurd (omega arith))
-    | inr least ↦ omega arith
-  ])
-]
+same_first n a b c d h k e = sym (pair-first a n b h) ∙ ap (λ i. i / n) e ∙ pair-first c n d k
 
 same_second : (n a b c d : ℕ) → b < n → d < n → a * n + b ≡ c * n + d → b ≡ d
-same_second n a b c d h k e = let first : a * n ≡ c * n = ap (λ i. i * n) (same_first n a b c d h k e) in omega arith
+same_second n a b c d h k e = sym (pair-second a n b h) ∙ ap (λ i. i % n) e ∙ pair-second c n d k
 
-pub place-lt : (n a b : ℕ) → a < n → b < n → a * n + b < n * n
-place-lt n a b h k = omega (arith, mul-add-lt a n b n h k)
+place-lt : (n a b : ℕ) → a < n → b < n → a * n + b < n * n
+place-lt n a b h k = pair-below a n n b h k
 
 first_place : {X : Type 0} (xs : List X) (a b k : ℕ) (x d : X) → a < length xs → (k ≡ a) ⊎ (k ≡ b) → (k ≡ b → ⊥) → get_or (set xs a x) k d ≡ x
 first_place xs a b k x d h (inl e) other = ap (λ j. get_or (set xs a x) j d) e ∙ get_or-set_same xs a x d h
@@ -119,26 +113,33 @@ listed-none zones rows listed n size e = record {
   small = subst (All IsSmall) (sym e) (All-replicate IsSmall n None (omega arith));
 }
 
-pub listed-fault : (zones : List ℕ) (rows : List Row) (listed : List (Option ℕ)) (row : ℕ) (fault : RowFault) → AreListedSoFar zones rows listed row → row < length rows → zone_bound_in zones (row + 2) (get_or rows row []) ≡ Err fault → zone_bound_rows zones rows ≡ Err fault
+-- what the rows read as decides what they give
+goes-on : (zones : List ℕ) (rows : List Row) (made : Result (List PairRow) RowFault) → zone_bound_rows zones rows ≡ made → zone_bounds_of zones rows ≡ go_on made (λ read. Ok (zone_costs (length zones) read))
+unfolding zone_bounds_of
+goes-on zones rows made e = ap (λ (made : Result (List PairRow) RowFault). go_on made (λ read. Ok (zone_costs (length zones) read))) e
+
+pub listed-fault : (zones : List ℕ) (rows : List Row) (listed : List (Option ℕ)) (row : ℕ) (fault : RowFault) → AreListedSoFar zones rows listed row → row < length rows → zone_bound_in zones (row + 2) (get_or rows row []) ≡ Err fault → zone_bounds_of zones rows ≡ Err fault
 unfolding zone_bound_rows
 listed-fault zones rows listed row fault so_far h e =
-    has_read-fault (zone_bound_reader zones) rows so_far.earlier row fault so_far.read h
+    goes-on zones rows (Err fault)
+    (has_read-fault (zone_bound_reader zones) rows so_far.earlier row fault so_far.read h
     (settled-fault (by_line (zone_bound_in zones)) so_far.earlier (get_or rows row []) fault
-    (by_line-is (zone_bound_in zones) so_far.earlier (get_or rows row []) row (Err fault) so_far.read.count e))
+    (by_line-is (zone_bound_in zones) so_far.earlier (get_or rows row []) row (Err fault) so_far.read.count e)))
 
 -- the cost that a row's two zones have
 known : (zones : List ℕ) (rows : List Row) (listed : List (Option ℕ)) (row : ℕ) (item : PairRow) (at : Option ℕ) → AreListedSoFar zones rows listed row → item.low ≤ item.high → item.high < length zones → at ≡ get_or listed (item.low * length zones + item.high) at → (so_far : AreListedSoFar zones rows listed row) → at ≡ cost_at so_far.earlier item.low item.high
 known zones rows listed row item at _ low high is so_far =
     is ∙ get_or_default listed (item.low * length zones + item.high) at None (omega (arith, so_far.size, place-lt (length zones) item.low item.high (omega arith) high)) ∙ so_far.each item.low item.high (omega arith) high
 
-pub listed-repeated : (zones : List ℕ) (rows : List Row) (listed : List (Option ℕ)) (row : ℕ) (item : PairRow) (at : Option ℕ) → AreListedSoFar zones rows listed row → row < length rows → zone_bound_in zones (row + 2) (get_or rows row []) ≡ Ok item → item.low ≤ item.high → item.high < length zones → at ≡ get_or listed (item.low * length zones + item.high) at → is_another at item.number ≡ true → zone_bound_rows zones rows ≡ Err (Repeated (row + 2))
+pub listed-repeated : (zones : List ℕ) (rows : List Row) (listed : List (Option ℕ)) (row : ℕ) (item : PairRow) (at : Option ℕ) → AreListedSoFar zones rows listed row → row < length rows → zone_bound_in zones (row + 2) (get_or rows row []) ≡ Ok item → item.low ≤ item.high → item.high < length zones → at ≡ get_or listed (item.low * length zones + item.high) at → is_another at item.number ≡ true → zone_bounds_of zones rows ≡ Err (Repeated (row + 2))
 unfolding zone_bound_rows
 listed-repeated zones rows listed row item at so_far h e low high is another =
-    has_read-fault (zone_bound_reader zones) rows so_far.earlier row (Repeated (row + 2)) so_far.read h
+    goes-on zones rows (Err (Repeated (row + 2)))
+    (has_read-fault (zone_bound_reader zones) rows so_far.earlier row (Repeated (row + 2)) so_far.read h
     (settled-as (by_line (zone_bound_in zones)) so_far.earlier (get_or rows row []) item true
     (by_line-is (zone_bound_in zones) so_far.earlier (get_or rows row []) row (Ok item) so_far.read.count e)
     (ap (λ (cost : Option ℕ). is_another cost item.number) (sym (known zones rows listed row item at so_far low high is so_far)) ∙ another)
-    ∙ ap (λ n. Err (Repeated (n + 2))) so_far.read.count)
+    ∙ ap (λ n. Err (Repeated (n + 2))) so_far.read.count))
 
 -- the two places of a row's zones
 each_more : (n : ℕ) (earlier : List PairRow) (listed : List (Option ℕ)) (item : PairRow) → length listed ≡ n * n → ((first second : ℕ) → first < n → second < n → get_or listed (first * n + second) None ≡ cost_at earlier first second) → item.low ≤ item.high → item.high < n → is_another (cost_at earlier item.low item.high) item.number ≡ false → (first second : ℕ) → first < n → second < n → (b : Bool) → names (min first second) (max first second) item ≡ b → get_or (set (set listed (item.low * n + item.high) (Some item.number)) (item.high * n + item.low) (Some item.number)) (first * n + second) None ≡ cost_at (earlier ++ item ∷ []) first second
@@ -176,21 +177,29 @@ listed-more zones rows listed row item at so_far h e low high small is another =
 
 -- ---- the costs of all zones
 
-pub listed-all : (zones : List ℕ) (rows : List Row) (listed : List (Option ℕ)) (row : ℕ) → (so_far : AreListedSoFar zones rows listed row) → length rows ≤ row → zone_bound_rows zones rows ≡ Ok so_far.earlier
+listed-all : (zones : List ℕ) (rows : List Row) (listed : List (Option ℕ)) (row : ℕ) → (so_far : AreListedSoFar zones rows listed row) → length rows ≤ row → zone_bound_rows zones rows ≡ Ok so_far.earlier
 unfolding zone_bound_rows
 listed-all zones rows listed row so_far h = has_read-all (zone_bound_reader zones) rows so_far.earlier row so_far.read h
 
-abbrev costs_of : List (Option ℕ) → List ℕ
-costs_of listed = map (λ cost. unwrap_or cost 0) listed
+costs-size : (zones : List ℕ) (rows : List Row) (listed : List (Option ℕ)) (row : ℕ) (costs : List ℕ) → AreListedSoFar zones rows listed row → costs ≡ map (λ cost. unwrap_or cost 0) listed → length costs ≡ length zones * length zones
+costs-size zones rows listed row costs so_far e = ap length e ∙ length-map listed (λ (cost : Option ℕ). unwrap_or cost 0) ∙ so_far.size
 
-pub costs-listed : (zones : List ℕ) (rows : List Row) (listed : List (Option ℕ)) (row : ℕ) (costs : List ℕ) → (so_far : AreListedSoFar zones rows listed row) → costs ≡ map (λ cost. unwrap_or cost 0) listed → AreListed (length zones) so_far.earlier costs
-costs-listed zones rows listed row costs so_far e = record {
-  all_pairs = ap length e ∙ length-map listed (λ (cost : Option ℕ). unwrap_or cost 0) ∙ so_far.size;
-  each = λ first second h k.
-      ap (λ (cs : List ℕ). get_or cs (first * length zones + second) 0) e
-      ∙ get_or-map (λ (cost : Option ℕ). unwrap_or cost 0) listed (first * length zones + second) None 0 (omega (arith, so_far.size, place-lt (length zones) first second h k))
-      ∙ ap (λ (cost : Option ℕ). unwrap_or cost 0) (so_far.each first second h k);
-}
+costs-each : (zones : List ℕ) (rows : List Row) (listed : List (Option ℕ)) (row : ℕ) (costs : List ℕ) → (so_far : AreListedSoFar zones rows listed row) → costs ≡ map (λ cost. unwrap_or cost 0) listed → (first second : ℕ) → first < length zones → second < length zones → get_or costs (first * length zones + second) 0 ≡ unwrap_or (cost_at so_far.earlier first second) 0
+costs-each zones rows listed row costs so_far e first second h k =
+    ap (λ (cs : List ℕ). get_or cs (first * length zones + second) 0) e
+    ∙ get_or-map (λ (cost : Option ℕ). unwrap_or cost 0) listed (first * length zones + second) None 0 (omega (arith, so_far.size, place-lt (length zones) first second h k))
+    ∙ ap (λ (cost : Option ℕ). unwrap_or cost 0) (so_far.each first second h k)
+
+costs-are : (zones : List ℕ) (rows : List Row) (listed : List (Option ℕ)) (row : ℕ) (costs : List ℕ) → (so_far : AreListedSoFar zones rows listed row) → costs ≡ map (λ cost. unwrap_or cost 0) listed → costs ≡ zone_costs (length zones) so_far.earlier
+costs-are zones rows listed row costs so_far e =
+    let n : ℕ = length zones in
+    list_below-from (n * n) (λ place. unwrap_or (cost_at so_far.earlier (place / n) (place % n)) 0) costs 0 (costs-size zones rows listed row costs so_far e)
+    (λ k h. ap (λ i. get_or costs i 0) (sym (pair-whole k n)) ∙ costs-each zones rows listed row costs so_far e (k / n) (k % n) (first-below k n n h) (second-below k n n h))
+
+pub costs-listed : (zones : List ℕ) (rows : List Row) (listed : List (Option ℕ)) (row : ℕ) (costs : List ℕ) → AreListedSoFar zones rows listed row → length rows ≤ row → costs ≡ map (λ cost. unwrap_or cost 0) listed → zone_bounds_of zones rows ≡ Ok costs
+costs-listed zones rows listed row costs so_far h e =
+    goes-on zones rows (Ok so_far.earlier) (listed-all zones rows listed row so_far h)
+    ∙ ap Ok (sym (costs-are zones rows listed row costs so_far e))
 
 either_order : (earlier : List PairRow) (first second : ℕ) → cost_at earlier first second ≡ cost_at earlier second first
 either_order earlier first second =
@@ -200,11 +209,11 @@ either_order earlier first second =
 
 pub costs-fit : (zones : List ℕ) (rows : List Row) (listed : List (Option ℕ)) (row : ℕ) (costs : List ℕ) → AreListedSoFar zones rows listed row → costs ≡ map (λ cost. unwrap_or cost 0) listed → AreZoneBounds (length zones) costs
 costs-fit zones rows listed row costs so_far e =
-    let are : AreListed (length zones) so_far.earlier costs = costs-listed zones rows listed row costs so_far e in
+    let each : (first second : ℕ) → first < length zones → second < length zones → get_or costs (first * length zones + second) 0 ≡ unwrap_or (cost_at so_far.earlier first second) 0 = costs-each zones rows listed row costs so_far e in
     record {
-      all_pairs = are.all_pairs;
+      all_pairs = costs-size zones rows listed row costs so_far e;
       small = subst (All (λ cost. cost ≤ 10 ^ 18)) (sym e) (All-map (λ cost. cost ≤ 10 ^ 18) (λ (cost : Option ℕ). unwrap_or cost 0) listed so_far.small);
-      even = λ first second h k. are.each first second h k ∙ ap (λ (cost : Option ℕ). unwrap_or cost 0) (either_order so_far.earlier first second) ∙ sym (are.each second first k h);
+      even = λ first second h k. each first second h k ∙ ap (λ (cost : Option ℕ). unwrap_or cost 0) (either_order so_far.earlier first second) ∙ sym (each second first k h);
     }
 
 -- what each cost gives is as even as the costs

@@ -1,11 +1,13 @@
 -- The file of boundaries: how long the boundary between two units is, and the outer boundary of each.
-use Rattle.std.specs.Prelude.{ℕ, ◌⊎◌, ◌+◌, ◌-◌, slice_get, Option, Some, None, false, ◌*◌, ◌^◌, ◌≡◌, ◌<◌, ◌≤◌, ◌==◌, ◌&&◌, Bool, List, length, Result, if◌then◌else◌}
+use Rattle.std.specs.Prelude.{ℕ, ◌+◌, ◌-◌, slice_get, Option, Some, None, false, ◌*◌, ◌^◌, ◌≡◌, ◌<◌, ◌≤◌, ◌==◌, ◌&&◌, nat_lt, Bool, List, length, Result, Ok, if◌then◌else◌}
 use Rattle.std.specs.List.{All, AllPairs, list_any, sum_by}
 use Rattle.mz_tables.specs.Table.{Row}
 use Rattle.mz_tables.specs.declared.fault.RowFault.{RowFault}
-use Rattle.mz_units.specs.Keyed.{list_below}
-use Rattle.mz_units.specs.Rows.{at_most, items_of, line_behind}
+use Rattle.mz_rows.specs.Keyed.{list_below}
+use Rattle.mz_rows.specs.Pairs.{IsBefore, pairs_below}
+use Rattle.mz_rows.specs.Rows.{at_most, go_on, items_of, line_behind}
 use Rattle.mz_bounds.specs.Pairs.{bound_in, names}
+use Rattle.mz_bounds.specs.declared.bounds.Bounds.{Bounds}
 use Rattle.mz_bounds.specs.declared.pair.PairRow.{PairRow}
 
 -- the rows of the file: at most 1,000,000
@@ -24,6 +26,18 @@ added_length rows low high = sum_by (length_for low high) rows
 abbrev pub Edge : Type 0
 Edge = ℕ × ℕ × ℕ
 
+-- each pair of two units that rows name, the lower one first, with their added length, in order
+abbrev pub edges_of : ℕ → List PairRow → List Edge
+edges_of units rows = pairs_below units units (λ low high. nat_lt low high && list_any (names low high) rows) (added_length rows)
+
+-- the edges, and the outer length of each unit
+abbrev pub bounds_from : ℕ → List PairRow → Bounds
+bounds_from units rows = record { edges = edges_of units rows; outer = list_below units (λ unit. added_length rows unit unit) }
+
+-- the boundaries that the rows of a table give
+unfoldable pub bounds_of : List ℕ → List Row → Result Bounds RowFault
+bounds_of units rows = go_on (bound_rows units rows) (λ read. Ok (bounds_from (length units) read))
+
 abbrev pub joins : ℕ → ℕ → Edge → Bool
 joins low high edge = (edge.0 == low) && (edge.1 == high)
 
@@ -40,10 +54,6 @@ ends_with edges row = joins_pair (slice_get edges (length edges - 1)) row
 abbrev pub pair_order : PairRow → ℕ
 pair_order row = row.low * 2 ^ 32 + row.high
 
--- the edge stands before the other, by its first unit and then by its second
-abbrev pub IsBefore : Edge → Edge → Type 0
-IsBefore a b = (a.0 < b.0) ⊎ ((a.0 ≡ b.0) × (a.1 < b.1))
-
 -- the pairs of two units that rows name, each once, in order, with the added length of its rows
 pub record AreAdded (rows : List PairRow) (edges : List Edge) : Type 0 where
   pub in_order : AllPairs IsBefore edges
@@ -51,18 +61,12 @@ pub record AreAdded (rows : List PairRow) (edges : List Edge) : Type 0 where
   pub lengths : All (λ edge. edge.2 ≡ added_length rows edge.0 edge.1) edges
   pub named : (low high : ℕ) → low < high → list_any (joins low high) edges ≡ list_any (names low high) rows
 
--- the edges and the outer length of each unit that come of the rows
-pub record AreBounds (units : ℕ) (rows : List PairRow) (edges : List Edge) (outer : List ℕ) : Type 0 where
-  pub added : AreAdded rows edges
-  pub added_twice : outer ≡ list_below units (λ unit. added_length rows unit unit)
-
--- edges between units, and an outer length for each unit, where there were so many rows
-pub record AreFitBounds (units rows : ℕ) (edges : List Edge) (outer : List ℕ) : Type 0 where
-  pub few : length edges ≤ 1000000
-  pub few_rows : rows ≤ 1000000
-  pub of_two : All (λ edge. edge.0 < edge.1) edges
-  pub in_range : All (λ edge. edge.1 < units) edges
-  pub in_order : AllPairs IsBefore edges
-  pub small : All (λ edge. edge.2 ≤ rows * 10 ^ 18) edges
-  pub all_units : length outer ≡ units
-  pub small_outer : All (λ number. number ≤ rows * 10 ^ 18) outer
+-- at most 1,000,000 edges between units, in order, and an outer length for each unit
+pub record AreFitBounds (units : ℕ) (bounds : Bounds) : Type 0 where
+  pub few : length bounds.edges ≤ 1000000
+  pub of_two : All (λ edge. edge.0 < edge.1) bounds.edges
+  pub in_range : All (λ edge. edge.1 < units) bounds.edges
+  pub in_order : AllPairs IsBefore bounds.edges
+  pub small : All (λ edge. edge.2 ≤ 1000000 * 10 ^ 18) bounds.edges
+  pub all_units : length bounds.outer ≡ units
+  pub small_outer : All (λ number. number ≤ 1000000 * 10 ^ 18) bounds.outer

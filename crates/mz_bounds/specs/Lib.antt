@@ -1,5 +1,4 @@
 pub mod Bounds
-pub mod From
 pub mod Pairs
 pub mod Rates
 pub mod Wanted

@@ -2,8 +2,8 @@
 use Rattle.std.specs.Prelude.{ℕ, ◌==◌, ◌&&◌, Bool, List, min, max, Result, Ok}
 use Rattle.mz_tables.specs.Table.{Row}
 use Rattle.mz_tables.specs.declared.fault.RowFault.{RowFault}
-use Rattle.mz_units.specs.Columns.{mic6_in, place_in, ten4_in}
-use Rattle.mz_units.specs.Rows.{go_on}
+use Rattle.mz_rows.specs.Columns.{mic6_in, place_in, ten4_in}
+use Rattle.mz_rows.specs.Rows.{go_on}
 use Rattle.mz_bounds.specs.declared.pair.PairRow.{PairRow}
 
 -- a row's two places, the lower one first, and its number

@@ -1,10 +1,11 @@
 -- The file of zone boundary costs: what a boundary between two zones costs.
-use Rattle.std.specs.Prelude.{ℕ, ◌+◌, ◌*◌, ◌^◌, ◌≡◌, ◌<◌, ◌≤◌, ◌==◌, Bool, false, not, List, length, min, max, slice_index, Option, Some, None, option_map, unwrap_or, Result, Ok, Err, if◌then◌else◌}
+use Rattle.std.specs.Prelude.{ℕ, ◌+◌, ◌*◌, ◌/◌, ◌%◌, ◌^◌, ◌≡◌, ◌<◌, ◌≤◌, ◌==◌, Bool, false, not, List, length, min, max, slice_index, Option, Some, None, option_map, unwrap_or, Result, Ok, Err, if◌then◌else◌}
 use Rattle.std.specs.List.{All, find}
 use Rattle.mz_tables.specs.Table.{Row}
 use Rattle.mz_tables.specs.declared.fault.RowFault.{RowFault}
 use Rattle.mz_tables.specs.declared.fault.RowFault.TheVariants.{Repeated}
-use Rattle.mz_units.specs.Rows.{RowReader, go_on, items_of, line_behind}
+use Rattle.mz_rows.specs.Keyed.{list_below}
+use Rattle.mz_rows.specs.Rows.{RowReader, go_on, items_of, line_behind}
 use Rattle.mz_bounds.specs.Pairs.{names, zone_bound_in}
 use Rattle.mz_bounds.specs.declared.pair.PairRow.{PairRow}
 
@@ -30,9 +31,12 @@ unfoldable pub zone_bound_rows : List ℕ → List Row → Result (List PairRow)
 zone_bound_rows zones rows = items_of (settled (λ earlier. zone_bound_in zones (line_behind earlier))) rows
 
 -- the cost of each two zones, in both orders, and 0 for what isn't listed
-pub record AreListed (zones : ℕ) (rows : List PairRow) (costs : List ℕ) : Type 0 where
-  pub all_pairs : length costs ≡ zones * zones
-  pub each : (first second : ℕ) → first < zones → second < zones → slice_index costs (first * zones + second) ≡ unwrap_or (cost_at rows first second) 0
+abbrev pub zone_costs : ℕ → List PairRow → List ℕ
+zone_costs zones rows = list_below (zones * zones) (λ place. unwrap_or (cost_at rows (place / zones) (place % zones)) 0)
+
+-- the costs that the rows of a table give
+unfoldable pub zone_bounds_of : List ℕ → List Row → Result (List ℕ) RowFault
+zone_bounds_of zones rows = go_on (zone_bound_rows zones rows) (λ read. Ok (zone_costs (length zones) read))
 
 -- the same number for two zones in both orders
 abbrev pub IsEven : ℕ → List ℕ → Type 0

@@ -1,13 +1,13 @@
 //! The file of boundaries: how long the boundary between two units is.
 ghost use Rattle.std.specs.Prelude.{◌≡◌, ◌<◌, ◌≤◌, ◌^◌, length, IfOk};
 ghost use Rattle.std.specs.List.{All};
-ghost use Rattle.mz_units.specs.Answer.{Gives};
-ghost use Rattle.mz_bounds.specs.Bounds.{AreBounds, AreFitBounds, bound_rows};
-ghost use Rattle.mz_bounds.specs.From.{GivesFrom};
+ghost use Rattle.mz_rows.specs.Answer.{Answers, Gives};
+ghost use Rattle.mz_bounds.specs.Bounds.{AreFitBounds, bound_rows, bounds_of};
 
 use crate::outer::outer_lengths;
 use crate::pair::{PairRow, read_bound};
 use crate::sorted::add_pairs;
+use mz_num::Items;
 use mz_tables::{Ids, RowFault, Table};
 use std::alloc::Global;
 
@@ -19,9 +19,9 @@ const MOST_ROWS: u32 = 1_000_000;
 pub struct Bounds {
     /// Two units by place, the lower one first, and the added length of their rows; each pair once,
     /// in order. A pair whose lengths add up to 0 stays.
-    pub edges: Vec<(u32, u32, u128)>,
+    pub edges: Items<(u32, u32, u128)>,
     /// The outer length of each unit: the added length of the rows that name it twice.
-    pub outer: Vec<u128>,
+    pub outer: Items<u128>,
 }
 
 /// Reads the boundaries of a table that has the columns of `wants_bounds`, or the first fault of its
@@ -29,8 +29,8 @@ pub struct Bounds {
 /// rows of a pair, in either order, are added.
 pub fn read_bounds(alloc: Global, table: &Table, units: &Ids) -> Result<Bounds, RowFault>
     requires { All (λ row. length row ≡ 3) table.now }
-    ensures answer { GivesFrom result (λ rows bounds. AreBounds (length units.now) rows bounds.edges.items bounds.outer.items) (bound_rows units.now table.now) }
-    ensures fit { IfOk result (λ bounds. AreFitBounds (length units.now) (length table.now) bounds.edges.items bounds.outer.items) }
+    ensures answer { Answers result (bounds_of units.now table.now) }
+    ensures fit { IfOk result (AreFitBounds (length units.now)) }
 {
     let rows = read_bound_rows(alloc, table, units)?;
     let Ok(outer) = outer_lengths(alloc, rows.as_slice(), units.len()) else {
@@ -39,14 +39,16 @@ pub fn read_bounds(alloc: Global, table: &Table, units: &Ids) -> Result<Bounds, 
     let Ok(edges) = add_pairs(alloc, rows) else {
         return Err(RowFault::NoMemory);
     };
-    Ok(Bounds { edges, outer })
+    Ok(Bounds {
+        edges: Items::new(edges),
+        outer: Items::new(outer),
+    })
 }
 
 /// Reads the rows.
 fn read_bound_rows(alloc: Global, table: &Table, units: &Ids) -> Result<Vec<PairRow>, RowFault>
     requires { All (λ row. length row ≡ 3) table.now }
     ensures answer { Gives result (λ rows. rows.items) (bound_rows units.now table.now) }
-    ensures count { IfOk result (λ rows. length rows.items ≡ length table.now) }
     ensures few { IfOk result (λ rows. length rows.items ≤ 1000000) }
     ensures low { IfOk result (λ rows. All (λ row. row.low ≤ row.high) rows.items) }
     ensures high { IfOk result (λ rows. All (λ row. row.high < length units.now) rows.items) }

@@ -3,7 +3,6 @@
 #![tactic(auto)]
 
 mod bounds;
-mod field;
 mod outer;
 mod pair;
 mod rate;

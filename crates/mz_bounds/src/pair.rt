@@ -2,7 +2,7 @@
 ghost use Rattle.std.specs.Prelude.{◌≡◌, ◌<◌, ◌≤◌, ◌+◌, ◌^◌, [], length, get_or, IfOk};
 ghost use Rattle.mz_bounds.specs.Pairs.{bound_in, zone_bound_in};
 
-use crate::field::{mic6_at, place_at, ten4_at};
+use mz_rows::{mic6_at, place_at, ten4_at};
 use mz_tables::{Ids, RowFault, Table};
 
 /// Two places, the lower one first, and the row's number: a length in ten-thousandths, or a cost in

@@ -1,11 +1,9 @@
 //! The readers over small tables. Each helper answers a small value, which the tests compare.
-ghost use Rattle.std.specs.Prelude.{◌≡◌, ◌≤◌, length, IfOk};
-ghost use Rattle.mz_units.specs.Named.{IsNamedList};
+ghost use Rattle.std.specs.Prelude.{◌≤◌, length, IfOk};
 
 use super::*;
 use mz_num::{Mic6, NoMemory, NumFault};
-use mz_tables::{RowFault, Table, TableFault};
-use mz_units::{ZoneList, read_zones, wants_zones};
+use mz_tables::{Ids, RowFault, Table, TableFault};
 use std::alloc::Global;
 use std::test::Fail;
 
@@ -35,24 +33,31 @@ impl From<RowFault> for Refusal {
     }
 }
 
-/// Ids of a small file, of units or of zones.
-fn ids_in(alloc: Global, bytes: &[u8]) -> Result<ZoneList, Refusal>
-    requires { length bytes.now ≤ 1000 }
-    ensures { IfOk result (λ list. IsNamedList list.ids list.names) }
+/// The ids 1 and 2.
+fn two_ids(alloc: Global) -> Result<Ids, NoMemory>
+    ensures { IfOk result (λ ids. length ids ≤ 2) }
 {
-    let wants = wants_zones(alloc)?;
-    let table = Table::read(alloc, bytes, &wants)?;
-    Ok(read_zones(alloc, &table)?)
+    let mut ids = Ids::new(alloc)?;
+    ids.add(alloc, 1)?;
+    ids.add(alloc, 2)?;
+    Ok(ids)
+}
+
+/// The ids 1, 2 and 3.
+fn three_ids(alloc: Global) -> Result<Ids, NoMemory> {
+    let mut ids = two_ids(alloc)?;
+    ids.add(alloc, 3)?;
+    Ok(ids)
 }
 
 /// The boundaries of three units.
 fn bounds_in(alloc: Global, bytes: &[u8]) -> Result<Bounds, Refusal>
     requires { length bytes.now ≤ 1000 }
 {
-    let units = ids_in(alloc, b"id\n1\n2\n3\n")?;
+    let units = three_ids(alloc)?;
     let wants = wants_bounds(alloc)?;
     let table = Table::read(alloc, bytes, &wants)?;
-    Ok(read_bounds(alloc, &table, &units.ids)?)
+    Ok(read_bounds(alloc, &table, &units)?)
 }
 
 /// The only edge.
@@ -92,10 +97,10 @@ fn outer(alloc: Global, bytes: &[u8]) -> Result<Option<(u128, u128, u128)>, Refu
 fn four_costs(alloc: Global, bytes: &[u8]) -> Result<Option<(u64, u64, u64, u64)>, Refusal>
     requires { length bytes.now ≤ 1000 }
 {
-    let zones = ids_in(alloc, b"id\n1\n2\n")?;
+    let zones = two_ids(alloc)?;
     let wants = wants_zone_bounds(alloc)?;
     let table = Table::read(alloc, bytes, &wants)?;
-    let costs = read_zone_bounds(alloc, &table, &zones.ids)?;
+    let costs = read_zone_bounds(alloc, &table, &zones)?;
     Ok(match costs.as_slice() {
         [first, second, third, fourth] => Some((*first, *second, *third, *fourth)),
         _ => None,

@@ -1,8 +1,8 @@
 //! The file of zone boundary costs: what a boundary between two zones costs.
 ghost use Rattle.std.specs.Prelude.{◌≡◌, ◌≤◌, length, map, unwrap_or, IfOk};
 ghost use Rattle.std.specs.List.{All};
-ghost use Rattle.mz_bounds.specs.From.{GivesFrom};
-ghost use Rattle.mz_bounds.specs.ZoneBounds.{AreListed, AreZoneBounds, is_another, zone_bound_rows};
+ghost use Rattle.mz_rows.specs.Answer.{Gives};
+ghost use Rattle.mz_bounds.specs.ZoneBounds.{AreZoneBounds, is_another, zone_bounds_of};
 
 use crate::pair::read_zone_bound;
 use mz_num::NoMemory;
@@ -16,7 +16,7 @@ use std::alloc::Global;
 pub fn read_zone_bounds(alloc: Global, table: &Table, zones: &Ids) -> Result<Vec<u64>, RowFault>
     requires zones { length zones.now ≤ 60 }
     requires wide { All (λ row. length row ≡ 3) table.now }
-    ensures answer { GivesFrom result (λ rows costs. AreListed (length zones.now) rows costs.items) (zone_bound_rows zones.now table.now) }
+    ensures answer { Gives result (λ costs. costs.items) (zone_bounds_of zones.now table.now) }
     ensures fit { IfOk result (λ costs. AreZoneBounds (length zones.now) costs.items) }
 {
     let width = zones.len() as usize;

@@ -6,8 +6,8 @@ use Rattle.std.proofs.lemmas.List.Elements.{All-push}
 use Rattle.mz_tables.specs.Table.{Row}
 use Rattle.mz_tables.specs.declared.fault.RowFault.{RowFault}
 use Rattle.mz_tables.specs.declared.fault.RowFault.TheVariants.{TooMany}
-use Rattle.mz_units.specs.Rows.{RowReader, at_most, items_of}
-use Rattle.mz_units.proofs.RowLemmas.{HasRead, has_read-none, has_read-more, has_read-fault, has_read-all, at_most-past, at_most-within, by_line, by_line-is}
+use Rattle.mz_rows.specs.Rows.{RowReader, at_most, items_of}
+use Rattle.mz_rows.proofs.RowLemmas.{HasRead, has_read-none, has_read-more, has_read-fault, has_read-all, at_most-past, at_most-within, by_line, by_line-is}
 use Rattle.mz_targets.specs.Amounts.{IsAmountRow, amount_in, amount_rows}
 use Rattle.mz_targets.specs.declared.amounts.Amount.{Amount}
 

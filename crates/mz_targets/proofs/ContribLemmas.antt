@@ -9,11 +9,11 @@ use Rattle.mz_tables.specs.Ids.{has_id}
 use Rattle.mz_tables.specs.Table.{Row}
 use Rattle.mz_tables.specs.declared.fault.RowFault.{RowFault}
 use Rattle.mz_tables.specs.declared.fault.RowFault.TheVariants.{Repeated}
-use Rattle.mz_units.specs.Rows.{RowReader, go_on, items_of, once}
+use Rattle.mz_rows.specs.Rows.{RowReader, go_on, items_of, once}
 use Rattle.mz_targets.specs.Contribs.{contrib_in, contrib_place, contrib_rows, fractions, fractions_of}
 use Rattle.mz_targets.specs.declared.contribs.Contrib.{Contrib}
-use Rattle.mz_units.proofs.KeyedLemmas.{AreMarks, marks-none, marks-at, marks-more, values-none, values-more}
-use Rattle.mz_units.proofs.RowLemmas.{HasRead, has_read-none, has_read-more, has_read-fault, has_read-all, once-fault, once-new, once-repeated, by_line, by_line-is}
+use Rattle.mz_rows.proofs.KeyedLemmas.{AreMarks, marks-none, marks-at, marks-more, values-none, values-more}
+use Rattle.mz_rows.proofs.RowLemmas.{HasRead, has_read-none, has_read-more, has_read-fault, has_read-all, once-fault, once-new, once-repeated, by_line, by_line-is}
 
 abbrev fraction_of : Contrib → ℕ
 fraction_of row = row.fraction

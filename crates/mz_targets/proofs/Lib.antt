@@ -2,5 +2,4 @@ pub mod ContribLemmas
 pub mod FeatureLemmas
 pub mod ZoneTargetLemmas
 pub mod PairSumLemmas
-pub mod OneListLemmas
 pub mod AmountLemmas

@@ -1,17 +1,23 @@
 -- Sums of pairs, while rows in order are added one by one.
 use Rattle.std.proofs.Common.{◌≡◌, ℕ, ◌+◌, ◌-◌, ◌*◌, ◌^◌, ◌<◌, ◌≤◌, ◌==◌, Bool, true, false, cond, List, [], ◌∷◌, ◌++◌, length, length-take-le, get_or, set, take, Result, Ok, Err, refl, ap, sym, ◌∙◌, subst, arith, inl, inr}
-use Rattle.std.specs.Prelude.{◌&&◌}
+use Rattle.std.specs.Prelude.{◌&&◌, nat_lt}
 use Rattle.std.specs.List.{All, Contains}
 use Rattle.std.specs.List.Sorted.{IsPermutation, IsNonDecreasingBy}
 use Rattle.std.proofs.Math.ListN.{length-set}
-use Rattle.std.proofs.lemmas.Bool.{cases_eq, cases_lt, eq-eqb, ne_eqb}
+use Rattle.std.proofs.lemmas.Bool.{cases_eq, cases_lt, eq-eqb, lt-ltb, ltb-true, ne_eqb}
 use Rattle.std.proofs.lemmas.List.{get_or-set_other, get_or-set_same, get_or-take, get_or_append_left, get_or_default, get_or_push, length_push, take_more}
 use Rattle.std.proofs.lemmas.List.Elements.{All-push, All-tail}
 use Rattle.std.proofs.lemmas.List.Quantifiers.{all_pairs_push}
 use Rattle.std.proofs.lemmas.List.Sorted.{sum_by-IsPermutation}
 use Rattle.std.proofs.lemmas.List.Sums.{sum_by-cons, sum_by-le, sum_by_push}
+use Rattle.mz_tables.specs.Table.{Row}
 use Rattle.mz_tables.specs.declared.fault.RowFault.{RowFault}
-use Rattle.mz_targets.specs.Amounts.{AreAmounts, AreSums, GivesSums, IsAmountRow, IsBefore, IsPairSum, IsSomeOrder, pair_sum}
+use Rattle.mz_rows.specs.Answer.{IsFaultOf}
+use Rattle.mz_rows.specs.Pairs.{IsBefore}
+use Rattle.mz_rows.specs.Rows.{go_on}
+use Rattle.mz_rows.proofs.AnswerLemmas.{fault-on}
+use Rattle.mz_rows.proofs.PairListLemmas.{pairs_below-are}
+use Rattle.mz_targets.specs.Amounts.{AreAmounts, AreSums, IsAmountRow, IsPairSum, IsSomeOrder, amount_rows, amounts_of, pair_sum, sums_of}
 use Rattle.mz_targets.specs.PairSums.{AreKeySums, IsKeySum, key_sum, row_key, sum_key}
 use Rattle.mz_targets.specs.declared.amounts.Amount.{Amount}
 
@@ -259,8 +265,8 @@ sums-order rows ordered sums moved are = record {
 }
 
 -- what sums are, for whoever takes them
-pub sums-fit : (rows : List Amount) (sums : List (ℕ × ℕ × ℕ)) (units features count : ℕ) → AreSums rows sums → All (IsAmountRow units features) rows → length rows ≡ count → length rows ≤ 5000000 → length sums ≤ length rows → AreAmounts units features count sums
-sums-fit rows sums units features count are within size few fewer = record {
+pub sums-fit : (rows : List Amount) (sums : List (ℕ × ℕ × ℕ)) (units features : ℕ) → AreSums rows sums → All (IsAmountRow units features) rows → length rows ≤ 5000000 → length sums ≤ length rows → AreAmounts units features sums
+sums-fit rows sums units features are within few fewer = record {
   few = omega arith;
   in_order = are.in_order;
   each = λ k d h. let is : IsPairSum rows (get_or sums k d) = are.each k d h in
@@ -271,7 +277,7 @@ sums-fit rows sums units features count are within size few fewer = record {
         unit = below_if_some (get_or sums k d).0 units (pair_sum rows (get_or sums k d).0 (get_or sums k d).1) (pair_sum-no_unit rows (get_or sums k d).0 (get_or sums k d).1 units (λ i e below. (within i e below).unit_known)) some;
         feature = below_if_some (get_or sums k d).1 features (pair_sum rows (get_or sums k d).0 (get_or sums k d).1) (pair_sum-no_feature rows (get_or sums k d).0 (get_or sums k d).1 features (λ i e below. (within i e below).feature_known)) some;
         positive = is.positive;
-        small = subst (λ n. n ≤ count * 10 ^ 18) (sym is.sum) (subst (λ n. pair_sum rows (get_or sums k d).0 (get_or sums k d).1 ≤ n * 10 ^ 18) size most);
+        small = subst (λ n. n ≤ 5000000 * 10 ^ 18) (sym is.sum) (omega arith);
       };
 }
 
@@ -299,7 +305,31 @@ take-small rows i h small k d below =
     let count : length (take i rows) ≡ i = length-take-le i rows h in
     subst (λ (r : Amount). r.amount ≤ 10 ^ 18) (sym (get_or-take i rows k d (omega arith))) (small k d (omega arith))
 
+-- ---- the sums that a table gives
+
+-- sums of pairs in range are those of the definition
+sums-one : (units features : ℕ) (rows : List Amount) (sums : List (ℕ × ℕ × ℕ)) → AreSums rows sums → AreAmounts units features sums → sums ≡ sums_of units features rows
+sums-one units features rows sums are fit = pairs_below-are units features (λ unit feature. nat_lt 0 (pair_sum rows unit feature)) (pair_sum rows) sums are.in_order
+    (λ k d h. let is : IsPairSum rows (get_or sums k d) = are.each k d h in record {
+      first_below = (fit.each k d h).unit;
+      second_below = (fit.each k d h).feature;
+      passes = lt-ltb 0 (pair_sum rows (get_or sums k d).0 (get_or sums k d).1) (subst (λ n. 0 < n) is.sum is.positive);
+      has_number = is.sum;
+    })
+    (λ u f _ _ some. are.whole u f (ltb-true 0 (pair_sum rows u f) some))
+
 -- rows that are read in one order and added in another
-pub gives-sums : (made : Result (List Amount) RowFault) (ordered : List Amount) (sums : List (ℕ × ℕ × ℕ)) → IsSomeOrder made ordered → AreSums ordered sums → GivesSums made sums
-gives-sums (Ok rows) ordered sums moved are = sums-order rows ordered sums moved are
-gives-sums (Err fault) ordered sums moved are = moved
+sums_behind : (units features : ℕ) (made : Result (List Amount) RowFault) (ordered : List Amount) (sums : List (ℕ × ℕ × ℕ)) → IsSomeOrder made ordered → AreSums ordered sums → AreAmounts units features sums → go_on made (λ read. Ok (sums_of units features read)) ≡ Ok sums
+sums_behind units features (Ok rows) ordered sums moved are fit = ap Ok (sym (sums-one units features rows sums (sums-order rows ordered sums moved are) fit))
+sums_behind units features (Err fault) ordered sums moved are fit = absurd moved
+
+pub gives-sums : (units features : List ℕ) (rows : List Row) (ordered : List Amount) (sums : List (ℕ × ℕ × ℕ)) → IsSomeOrder (amount_rows units features rows) ordered → AreSums ordered sums → AreAmounts (length units) (length features) sums → amounts_of units features rows ≡ Ok sums
+unfolding amounts_of
+gives-sums units features rows ordered sums moved are fit = sums_behind (length units) (length features) (amount_rows units features rows) ordered sums moved are fit
+
+-- the first fault of the rows
+pub gives-fault : (units features : List ℕ) (rows : List Row) (fault : RowFault) → IsFaultOf fault (amount_rows units features rows) → IsFaultOf fault (amounts_of units features rows)
+unfolding amounts_of
+gives-fault units features rows fault is =
+    fault-on fault (amount_rows units features rows) (go_on (amount_rows units features rows) (λ read. Ok (sums_of (length units) (length features) read))) is
+    (λ f e. ap (λ (made : Result (List Amount) RowFault). go_on made (λ read. Ok (sums_of (length units) (length features) read))) e)

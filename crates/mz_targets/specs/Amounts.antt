@@ -1,11 +1,12 @@
 -- The file of amounts: how much of a feature a unit has.
-use Rattle.std.specs.Prelude.{ℕ, ◌*◌, ◌^◌, ◌==◌, ◌&&◌, ◌≡◌, ◌≤◌, ◌<◌, ◌⊎◌, cond, List, length, Result, Ok, Err}
+use Rattle.std.specs.Prelude.{ℕ, ◌*◌, ◌^◌, ◌==◌, ◌&&◌, ◌≡◌, ◌≤◌, ◌<◌, nat_lt, cond, List, length, Result, Ok, Err}
 use Rattle.std.specs.List.{All, AllPairs, Contains, sum_by}
 use Rattle.std.specs.List.Sorted.{IsPermutation}
 use Rattle.mz_tables.specs.Table.{Row}
 use Rattle.mz_tables.specs.declared.fault.RowFault.{RowFault}
-use Rattle.mz_units.specs.Columns.{place_in, ten4_in}
-use Rattle.mz_units.specs.Rows.{at_most, go_on, items_of, line_behind}
+use Rattle.mz_rows.specs.Columns.{place_in, ten4_in}
+use Rattle.mz_rows.specs.Pairs.{IsBefore, pairs_below}
+use Rattle.mz_rows.specs.Rows.{at_most, go_on, items_of, line_behind}
 use Rattle.mz_targets.specs.declared.amounts.Amount.{Amount}
 
 -- a row's unit and feature by place, and the amount in ten-thousandths; the feature's column stands first
@@ -24,25 +25,24 @@ amount_rows units features rows = items_of (at_most 5000000 (λ earlier. amount_
 abbrev pub pair_sum : List Amount → ℕ → ℕ → ℕ
 pair_sum rows unit feature = sum_by (λ row. cond (row.unit == unit && row.feature == feature) row.amount 0) rows
 
--- rows go by their unit, and those of one unit by their feature
-abbrev pub IsBefore : ℕ × ℕ × ℕ → ℕ × ℕ × ℕ → Type 0
-IsBefore a b = (a.0 < b.0) ⊎ ((a.0 ≡ b.0) × (a.1 < b.1))
+-- the positive sum of each pair of a unit and a feature, in order
+abbrev pub sums_of : ℕ → ℕ → List Amount → List (ℕ × ℕ × ℕ)
+sums_of units features rows = pairs_below units features (λ unit feature. nat_lt 0 (pair_sum rows unit feature)) (pair_sum rows)
+
+-- the sums of the rows that a table gives
+unfoldable pub amounts_of : List ℕ → List ℕ → List Row → Result (List (ℕ × ℕ × ℕ)) RowFault
+amounts_of units features rows = go_on (amount_rows units features rows) (λ read. Ok (sums_of (length units) (length features) read))
 
 -- the positive sum of the rows of a pair
 pub record IsPairSum (rows : List Amount) (row : ℕ × ℕ × ℕ) : Type 0 where
   pub sum : row.2 ≡ pair_sum rows row.0 row.1
   pub positive : 0 < row.2
 
--- each pair whose rows sum to more than 0, once and in order, with the sum: one list alone is this
+-- each pair whose rows sum to more than 0, once and in order, with the sum
 pub record AreSums (rows : List Amount) (sums : List (ℕ × ℕ × ℕ)) : Type 0 where
   pub in_order : AllPairs IsBefore sums
   pub each : All (IsPairSum rows) sums
   pub whole : (unit feature : ℕ) → 0 < pair_sum rows unit feature → Contains sums (unit, feature, pair_sum rows unit feature)
-
--- the sums of the rows that a table gives
-abbrev pub GivesSums : Result (List Amount) RowFault → List (ℕ × ℕ × ℕ) → Type 0
-GivesSums (Ok rows) sums = AreSums rows sums
-GivesSums (Err fault) sums = ⊥
 
 -- the same rows, in some order
 abbrev pub IsSomeOrder : Result (List Amount) RowFault → List Amount → Type 0
@@ -63,7 +63,8 @@ pub record IsAmount (units features most : ℕ) (row : ℕ × ℕ × ℕ) : Type
   pub positive : 0 < row.2
   pub small : row.2 ≤ most
 
-pub record AreAmounts (units features rows : ℕ) (amounts : List (ℕ × ℕ × ℕ)) : Type 0 where
+-- at most 5,000,000 of them, in order
+pub record AreAmounts (units features : ℕ) (amounts : List (ℕ × ℕ × ℕ)) : Type 0 where
   pub few : length amounts ≤ 5000000
   pub in_order : AllPairs IsBefore amounts
-  pub each : All (IsAmount units features (rows * 10 ^ 18)) amounts
+  pub each : All (IsAmount units features (5000000 * 10 ^ 18)) amounts

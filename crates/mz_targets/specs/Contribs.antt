@@ -3,9 +3,9 @@ use Rattle.std.specs.Prelude.{ℕ, ◌+◌, ◌*◌, ◌^◌, ◌≡◌, ◌≤�
 use Rattle.std.specs.List.{All}
 use Rattle.mz_tables.specs.Table.{Row}
 use Rattle.mz_tables.specs.declared.fault.RowFault.{RowFault}
-use Rattle.mz_units.specs.Columns.{mic6_in, place_in}
-use Rattle.mz_units.specs.Keyed.{values_below}
-use Rattle.mz_units.specs.Rows.{go_on, items_of, line_behind, once}
+use Rattle.mz_rows.specs.Columns.{mic6_in, place_in}
+use Rattle.mz_rows.specs.Keyed.{values_below}
+use Rattle.mz_rows.specs.Rows.{go_on, items_of, line_behind, once}
 use Rattle.mz_targets.specs.declared.contribs.Contrib.{Contrib}
 
 -- a row's zone and feature by place, and the fraction in millionths

@@ -3,8 +3,8 @@ use Rattle.std.specs.Prelude.{ℕ, ◌^◌, ◌≡◌, ◌≢◌, ◌≤◌, Lis
 use Rattle.std.specs.List.{All, AllPairs}
 use Rattle.mz_tables.specs.Table.{Row}
 use Rattle.mz_tables.specs.declared.fault.RowFault.{RowFault}
-use Rattle.mz_units.specs.Columns.{id_in, text_in}
-use Rattle.mz_units.specs.Rows.{at_most, go_on, items_of, line_behind, once}
+use Rattle.mz_rows.specs.Columns.{id_in, text_in}
+use Rattle.mz_rows.specs.Rows.{at_most, go_on, items_of, line_behind, once}
 use Rattle.mz_targets.specs.Optional.{mic6_or, ten4_or, zero_in}
 use Rattle.mz_targets.specs.declared.features.Feature.{Feature}
 use Rattle.mz_targets.specs.declared.features.FeatureList.{FeatureList}

@@ -5,8 +5,8 @@ use Rattle.mz_num.specs.declared.fault.NumFault.{NumFault}
 use Rattle.mz_tables.specs.Table.{Row}
 use Rattle.mz_tables.specs.declared.fault.RowFault.{RowFault}
 use Rattle.mz_tables.specs.declared.fault.RowFault.TheVariants.{LeftOut}
-use Rattle.mz_units.specs.Columns.{number_at, text_in}
-use Rattle.mz_units.specs.Rows.{go_on}
+use Rattle.mz_rows.specs.Columns.{number_at, text_in}
+use Rattle.mz_rows.specs.Rows.{go_on}
 
 -- what a text reads as, and the default where there is none
 abbrev pub or_default : ℕ → (List ℕ → Result ℕ NumFault) → List ℕ → Result ℕ NumFault

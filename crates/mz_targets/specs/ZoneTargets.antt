@@ -4,8 +4,8 @@ use Rattle.std.specs.List.{All}
 use Rattle.mz_tables.specs.Table.{Row}
 use Rattle.mz_tables.specs.declared.fault.RowFault.{RowFault}
 use Rattle.mz_tables.specs.declared.fault.RowFault.TheVariants.{LeftOut}
-use Rattle.mz_units.specs.Columns.{mic6_in, place_in, ten4_in}
-use Rattle.mz_units.specs.Rows.{at_most, go_on, items_of, line_behind, once}
+use Rattle.mz_rows.specs.Columns.{mic6_in, place_in, ten4_in}
+use Rattle.mz_rows.specs.Rows.{at_most, go_on, items_of, line_behind, once}
 use Rattle.mz_targets.specs.Optional.{whole_or}
 use Rattle.mz_targets.specs.declared.zone_targets.ZoneTarget.{ZoneTarget}
 

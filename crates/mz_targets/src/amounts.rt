@@ -2,12 +2,12 @@
 ghost use Rattle.std.specs.Prelude.{◌≡◌, ◌<◌, ◌≤◌, ◌+◌, ◌^◌, [], length, get_or, IfOk, MatchResult};
 ghost use Rattle.std.specs.List.{All};
 ghost use Rattle.std.specs.List.Sorted.{IsNonDecreasingBy};
-ghost use Rattle.mz_units.specs.Answer.{Gives, IsFaultOf};
-ghost use Rattle.mz_targets.specs.Amounts.{AreAmounts, GivesSums, IsAmountRow, IsSomeOrder, amount_in, amount_rows};
+ghost use Rattle.mz_rows.specs.Answer.{Gives, IsFaultOf};
+ghost use Rattle.mz_targets.specs.Amounts.{AreAmounts, IsAmountRow, IsSomeOrder, amount_in, amount_rows, amounts_of};
 ghost use Rattle.mz_targets.specs.PairSums.{row_key};
 
-use crate::field::{place_at, ten4_at};
 use crate::pair_sums::{add_pairs, pair_key};
+use mz_rows::{place_at, ten4_at};
 use mz_tables::{Ids, RowFault, Table};
 use std::alloc::Global;
 
@@ -33,8 +33,8 @@ pub fn read_amounts(
     features: &Ids,
 ) -> Result<Vec<(u32, u32, u128)>, RowFault>
     requires { All (λ row. length row ≡ 3) table.now }
-    ensures answer { MatchResult result (λ amounts. GivesSums (amount_rows units.now features.now table.now) amounts.items) (λ fault. IsFaultOf fault (amount_rows units.now features.now table.now)) }
-    ensures fit { IfOk result (λ amounts. AreAmounts (length units.now) (length features.now) (length table.now) amounts.items) }
+    ensures answer { Gives result (λ amounts. amounts.items) (amounts_of units.now features.now table.now) }
+    ensures fit { IfOk result (λ amounts. AreAmounts (length units.now) (length features.now) amounts.items) }
 {
     let rows = read_sorted(alloc, table, units, features)?;
     match add_pairs(alloc, &rows) {
@@ -54,7 +54,6 @@ fn read_sorted(
     ensures answer { MatchResult result (λ rows. IsSomeOrder (amount_rows units.now features.now table.now) rows.items) (λ fault. IsFaultOf fault (amount_rows units.now features.now table.now)) }
     ensures in_order { IfOk result (λ rows. IsNonDecreasingBy row_key rows.items) }
     ensures each { IfOk result (λ rows. All (IsAmountRow (length units.now) (length features.now)) rows.items) }
-    ensures count { IfOk result (λ rows. length rows.items ≡ length table.now) }
     ensures few { IfOk result (λ rows. length rows.items ≤ 5000000) }
 {
     let mut rows = read_rows(alloc, table, units, features)?;
@@ -74,7 +73,6 @@ fn read_rows(
     requires { All (λ row. length row ≡ 3) table.now }
     ensures answer { Gives result (λ rows. rows.items) (amount_rows units.now features.now table.now) }
     ensures each { IfOk result (λ rows. All (IsAmountRow (length units.now) (length features.now)) rows.items) }
-    ensures count { IfOk result (λ rows. length rows.items ≡ length table.now) }
     ensures few { IfOk result (λ rows. length rows.items ≤ 5000000) }
 {
     let mut rows = Vec::new(alloc);

@@ -1,10 +1,10 @@
 //! The file of contributions: which fraction of a feature's amount a zone holds.
 ghost use Rattle.std.specs.Prelude.{◌≡◌, ◌<◌, ◌≤◌, ◌+◌, ◌^◌, [], length, get_or, IfOk};
 ghost use Rattle.std.specs.List.{All};
-ghost use Rattle.mz_units.specs.Answer.{Gives};
+ghost use Rattle.mz_rows.specs.Answer.{Gives};
 ghost use Rattle.mz_targets.specs.Contribs.{AreFractions, contrib_in, fractions_of};
 
-use crate::field::{mic6_at, place_at};
+use mz_rows::{mic6_at, place_at};
 use mz_tables::{Ids, RowFault, Table};
 use std::alloc::Global;
 

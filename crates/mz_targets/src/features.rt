@@ -1,11 +1,12 @@
 //! The file of features: what is to be held of each.
 ghost use Rattle.std.specs.Prelude.{◌≡◌, ◌<◌, ◌≤◌, ◌+◌, [], length, get_or, IfOk};
 ghost use Rattle.std.specs.List.{All};
-ghost use Rattle.mz_units.specs.Answer.{Answers};
+ghost use Rattle.mz_rows.specs.Answer.{Answers};
 ghost use Rattle.mz_targets.specs.Features.{IsFeature, IsFeatureList, feature_in, feature_row_in, features_of, left_out_in};
 
-use crate::field::{id_at, mic6_or_default, ten4_or_default, text_at, zero_at};
+use crate::optional::{mic6_or_default, ten4_or_default, zero_at};
 use mz_num::Items;
+use mz_rows::{id_at, text_at};
 use mz_tables::{Ids, RowFault, Table};
 use std::alloc::Global;
 

@@ -5,8 +5,8 @@
 mod amounts;
 mod contribs;
 mod features;
-mod field;
 mod level;
+mod optional;
 mod pair_sums;
 #[cfg(test)]
 mod tests;

@@ -1,11 +1,12 @@
 //! The file of zone targets: what is to be held of a feature in one zone.
 ghost use Rattle.std.specs.Prelude.{◌≡◌, ◌<◌, ◌≤◌, ◌+◌, ◌^◌, [], length, get_or, IfOk};
 ghost use Rattle.std.specs.List.{All};
-ghost use Rattle.mz_units.specs.Answer.{Gives};
-ghost use Rattle.mz_units.specs.Rows.{go_on};
+ghost use Rattle.mz_rows.specs.Answer.{Gives};
+ghost use Rattle.mz_rows.specs.Rows.{go_on};
 ghost use Rattle.mz_targets.specs.ZoneTargets.{AreZoneTargets, IsZoneTarget, is_proportion, taken_type, type_in, value_in, zone_target_in, zone_targets_of};
 
-use crate::field::{mic6_at, place_at, ten4_at, whole_or_zero};
+use crate::optional::whole_or_zero;
+use mz_rows::{mic6_at, place_at, ten4_at};
 use mz_tables::{Ids, RowFault, Table};
 use std::alloc::Global;
 

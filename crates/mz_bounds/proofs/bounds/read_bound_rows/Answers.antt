@@ -1,6 +1,6 @@
 use Rattle.std.proofs.Common.{arith, rules, sym}
 use Rattle.std.proofs.lemmas.Result.{err_from_is_err_and}
-use Rattle.mz_units.proofs.AnswerLemmas.{fault-is}
+use Rattle.mz_rows.proofs.AnswerLemmas.{fault-is}
 use Rattle.mz_bounds.specs.Bounds.{bound_rows}
 use Rattle.mz_bounds.proofs.BoundLemmas.{bounds-all, bounds-fault, bounds-more, bounds-none, bounds-too_many}
 use Rattle.mz_bounds.proofs.bounds.read_bound_rows.Goals as goal

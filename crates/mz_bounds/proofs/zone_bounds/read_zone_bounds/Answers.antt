@@ -1,8 +1,8 @@
 use Rattle.std.proofs.Common.{ℕ, ◌+◌, ◌*◌, List, set, get_or, Option, Some, map, unwrap_or, ap, arith, rules, sym, subst, ◌∙◌}
 use Rattle.std.proofs.lemmas.Result.{err_from_is_err_and}
-use Rattle.mz_units.proofs.AnswerLemmas.{fault-is}
-use Rattle.mz_bounds.specs.ZoneBounds.{zone_bound_rows}
-use Rattle.mz_bounds.proofs.ZoneBoundLemmas.{AreListedSoFar, costs-fit, costs-listed, listed-all, listed-fault, listed-more, listed-none, listed-repeated}
+use Rattle.mz_rows.proofs.AnswerLemmas.{fault-is}
+use Rattle.mz_bounds.specs.ZoneBounds.{zone_bounds_of}
+use Rattle.mz_bounds.proofs.ZoneBoundLemmas.{AreListedSoFar, costs-fit, costs-listed, listed-fault, listed-more, listed-none, listed-repeated}
 use Rattle.mz_bounds.proofs.zone_bounds.read_zone_bounds.Goals as goal
 
 pub loop-row-init : goal.loop-row-init
@@ -11,7 +11,7 @@ loop-row-init c = listed-none c.args.zones.now c.args.table.now c.in-Ok.listed.i
 pub returns-in_err-bound-clause-answer : goal.returns-in_err-bound-clause-answer
 returns-in_err-bound-clause-answer c =
     let passed = err_from_is_err_and c.from_residual.result c.from_residual.ensures.1 in
-    rw (passed.1, passed.2) (fault-is c.in_err-bound.field-0.0 (zone_bound_rows c.args.zones.now c.args.table.now)
+    rw (passed.1, passed.2) (fault-is c.in_err-bound.field-0.0 (zone_bounds_of c.args.zones.now c.args.table.now)
     (listed-fault c.args.zones.now c.args.table.now c.loop-row.listed.items c.loop-row.row c.in_err-bound.field-0.0 c.loop-row.invariant (omega (arith, c.rows-row-end.ensures.rows)) (sym c.in_err-bound.ensures.answer)))
 
 pub returns-then-is_another-clause-answer : goal.returns-then-is_another-clause-answer
@@ -28,11 +28,8 @@ loop-row-preserved c =
     (sym c.is_another.ensures ∙ c.if-is_another.false))
 
 pub returns-clause-answer : goal.returns-clause-answer
-returns-clause-answer c = (
-  c.loop-row.invariant.earlier,
-  listed-all c.args.zones.now c.args.table.now c.loop-row.listed.items c.loop-row.row c.loop-row.invariant (omega (arith, c.rows-row-end.ensures.rows)),
-  costs-listed c.args.zones.now c.args.table.now c.loop-row.listed.items c.loop-row.row c.in-Ok-listed_costs.costs.items c.loop-row.invariant (c.in-Ok-listed_costs.ensures ∙ ap (λ (listed : List (Option ℕ)). map (λ cost. unwrap_or cost 0) listed) c.as_slice.ensures.value),
-)
+returns-clause-answer c =
+    costs-listed c.args.zones.now c.args.table.now c.loop-row.listed.items c.loop-row.row c.in-Ok-listed_costs.costs.items c.loop-row.invariant (omega (arith, c.rows-row-end.ensures.rows)) (c.in-Ok-listed_costs.ensures ∙ ap (λ (listed : List (Option ℕ)). map (λ cost. unwrap_or cost 0) listed) c.as_slice.ensures.value)
 
 pub returns-clause-fit : goal.returns-clause-fit
 returns-clause-fit c =

@@ -1,7 +1,7 @@
 use Rattle.std.proofs.Common.{arith, rules, sym}
 use Rattle.std.proofs.lemmas.Result.{err_from_is_err_and}
 use Rattle.mz_targets.specs.Amounts.{amount_rows}
-use Rattle.mz_units.proofs.AnswerLemmas.{fault-is}
+use Rattle.mz_rows.proofs.AnswerLemmas.{fault-is}
 use Rattle.mz_targets.proofs.AmountLemmas.{amounts-none, amounts-too_many, amounts-fault, amounts-more, amounts-all}
 use Rattle.mz_targets.proofs.amounts.read_rows.Goals as goal
 
@@ -23,6 +23,3 @@ loop-row-preserved c =
 
 pub returns-clause-answer : goal.returns-clause-answer
 returns-clause-answer c = amounts-all c.args.units.now c.args.features.now c.args.table.now c.loop-row.rows.items c.loop-row.row c.loop-row.invariant (omega (arith, c.rows-row-end.ensures.rows))
-
-pub returns-clause-count : goal.returns-clause-count
-returns-clause-count c = omega (arith, c.loop-row.invariant.read.count, c.rows-row-end.ensures.rows)

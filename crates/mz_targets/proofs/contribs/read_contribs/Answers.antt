@@ -1,7 +1,7 @@
 use Rattle.std.proofs.Common.{◌+◌, ◌*◌, ap, arith, rules, sym, ◌∙◌}
 use Rattle.std.proofs.lemmas.Result.{err_from_is_err_and}
 use Rattle.mz_targets.specs.Contribs.{fractions_of}
-use Rattle.mz_units.proofs.AnswerLemmas.{fault-is}
+use Rattle.mz_rows.proofs.AnswerLemmas.{fault-is}
 use Rattle.mz_targets.proofs.ContribLemmas.{contribs-none, contribs-fault, contribs-repeated, contribs-more, contribs-all}
 use Rattle.mz_targets.proofs.contribs.read_contribs.Goals as goal
 

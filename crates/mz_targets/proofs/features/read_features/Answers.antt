@@ -1,7 +1,7 @@
 use Rattle.std.proofs.Common.{arith, rules}
 use Rattle.std.proofs.lemmas.Result.{err_from_is_err_and}
 use Rattle.mz_tables.specs.Ids.{has_id}
-use Rattle.mz_units.proofs.IdLemmas.{was-known, was-new}
+use Rattle.mz_rows.proofs.IdLemmas.{was-known, was-new}
 use Rattle.mz_targets.proofs.FeatureLemmas.{features-none, features-too_many, features-fault, features-repeated, features-more, features-all}
 use Rattle.mz_targets.proofs.features.read_features.Goals as goal
 

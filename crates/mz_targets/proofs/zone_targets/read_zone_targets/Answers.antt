@@ -1,7 +1,7 @@
 use Rattle.std.proofs.Common.{◌+◌, ◌*◌, ap, arith, rules, sym, ◌∙◌}
 use Rattle.std.proofs.lemmas.Result.{err_from_is_err_and}
 use Rattle.mz_targets.specs.ZoneTargets.{zone_targets_of}
-use Rattle.mz_units.proofs.AnswerLemmas.{fault-is}
+use Rattle.mz_rows.proofs.AnswerLemmas.{fault-is}
 use Rattle.mz_targets.proofs.ZoneTargetLemmas.{targets-none, targets-too_many, targets-fault, targets-repeated, targets-more, targets-all, mark_of-lt}
 use Rattle.mz_targets.proofs.zone_targets.read_zone_targets.Goals as goal
 
