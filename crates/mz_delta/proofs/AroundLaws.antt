@@ -1,17 +1,18 @@
 -- Laws of what stands round a reading's unit.
-use Rattle.std.proofs.Common.{◌≡◌, ℕ, ◌+◌, ◌-◌, ◌<◌, ◌≤◌, List, [], ◌∷◌, ◌++◌, length, get_or, ap, sym, ◌∙◌, subst, arith}
-use Rattle.std.specs.Prelude.{pos, ◌-ℤ◌, slice_index}
+use Rattle.std.proofs.Common.{◌≡◌, ℕ, ◌+◌, ◌-◌, ◌<◌, ◌≤◌, ◌^◌, List, [], ◌∷◌, ◌++◌, length, get_or, ap, sym, ◌∙◌, subst, arith}
+use Rattle.std.specs.Prelude.{pos, ◌-ℤ◌, IsTrue, slice_index}
 use Rattle.std.proofs.lemmas.List.Elements.{All-get_or}
 use Rattle.mz_model.specs.declared.parts.Parts.{Parts}
 use Rattle.mz_model.specs.Boundary.{edge_term_of, neighbours_of}
 use Rattle.mz_model.specs.Parts.{unit_count, zone_count, outer_at}
 use Rattle.mz_model.specs.Places.{list_below, sum_below}
 use Rattle.mz_model.specs.Scores.{penalty_term_of}
-use Rattle.mz_model.specs.Targets.{gain_of, touched_rows, touches_of}
+use Rattle.mz_model.specs.Targets.{gain_from, gain_of, touched_rows, touches_of}
 use Rattle.mz_model.specs.Valid.{IsValid}
+use Rattle.mz_model.specs.Zones.{is_allowed}
 use Rattle.mz_model.proofs.NeighbourLaws.{neighbours_of-in_range}
 use Rattle.mz_model.proofs.PlaceLaws.{length-list_below, list_below-more}
-use Rattle.mz_model.proofs.TouchLaws.{get_or-touches_of, length-touches_of}
+use Rattle.mz_model.proofs.TouchLaws.{gain_from-touch, gain_of-touched-le, get_or-touches_of, length-touches_of}
 use Rattle.mz_model.proofs.ZoneLaws.{is_allowed-in_range}
 use Rattle.mz_delta.specs.declared.reading.Reading.{Reading}
 use Rattle.mz_delta.specs.Move.{boundary_around, moved_total, moved_totals, neighbour_term, penalty_around}
@@ -66,20 +67,37 @@ penalty_around-change parts unit i before after old new all change =
     let rows : after + sum_below (length (touched_rows parts unit)) (touched_penalty parts unit old) ≡ before + sum_below (length (touched_rows parts unit)) (touched_penalty parts unit new) = subst (λ n. after + sum_below n (touched_penalty parts unit old) ≡ before + sum_below n (touched_penalty parts unit new)) all change in
     crosswise (sum_below (length (touched_rows parts unit)) (touched_penalty parts unit new)) (sum_below (length (touched_rows parts unit)) (touched_penalty parts unit old)) after before (omega arith)
 
+-- what a unit's amount for a row that it touches counts in a zone that it may have
+pub record IsGain (parts : Parts) (unit i zone : ℕ) (touch : ℕ × ℕ) : Type 0 where
+  pub is : gain_from parts touch.0 touch.1 zone ≡ gain_of parts (slice_index (touched_rows parts unit) i) unit zone
+  pub small : gain_from parts touch.0 touch.1 zone ≤ 10 ^ 18
+
+pub touch-gain : (parts : Parts) (unit i zone : ℕ) (touches : List (ℕ × ℕ)) → IsValid parts → unit < unit_count parts → IsTrue (is_allowed parts unit zone) → touches ≡ touches_of parts unit → i < length touches → IsGain parts unit i zone (get_or touches i (0, 0))
+touch-gain parts unit i zone touches valid u allowed e h =
+    let inside : i < length (touched_rows parts unit) = omega (arith, ap length e, length-touches_of parts unit) in
+    let is : gain_from parts (get_or touches i (0, 0)).0 (get_or touches i (0, 0)).1 zone ≡ gain_of parts (slice_index (touched_rows parts unit) i) unit zone = gain_from-touch parts unit i zone touches e inside in
+    record { is = is; small = subst (λ n. n ≤ 10 ^ 18) (sym is) (gain_of-touched-le parts unit i zone valid u (is_allowed-in_range parts unit zone valid u allowed) inside) }
+
+-- what a well formed reading holds for a row that the unit touches
+pub read_total-le : (parts : Parts) (reading : Reading) (i : ℕ) (held : List ℕ) (touches : List (ℕ × ℕ)) → IsWellFormed parts reading → held ≡ reading.totals.items → touches ≡ touches_of parts reading.unit → i < length touches → get_or held i 0 ≤ 10 ^ 18
+read_total-le parts reading i held touches well e f h =
+    subst (λ (ts : List ℕ). get_or ts i 0 ≤ 10 ^ 18) (sym e)
+    (All-get_or (λ total. total ≤ 10 ^ 18) reading.totals.items i 0 (omega (arith, well.touched, ap length f, length-touches_of parts reading.unit)) well.totals)
+
 -- one total more
-pub moved_totals-more : (parts : Parts) (reading : Reading) (zone i total gained lost : ℕ) (totals totals' held : List ℕ)
+pub moved_totals-more : (parts : Parts) (reading : Reading) (zone i total gained lost : ℕ) (touch : ℕ × ℕ) (totals totals' held : List ℕ)
     → totals ≡ list_below i (moved_total parts reading zone) → held ≡ reading.totals.items
-    → gained ≡ gain_of parts (slice_index (touched_rows parts reading.unit) i) reading.unit zone
-    → lost ≡ gain_of parts (slice_index (touched_rows parts reading.unit) i) reading.unit reading.zone
+    → IsGain parts reading.unit i zone touch → gained ≡ gain_from parts touch.0 touch.1 zone
+    → IsGain parts reading.unit i reading.zone touch → lost ≡ gain_from parts touch.0 touch.1 reading.zone
     → total ≡ get_or held i 0 + gained - lost → totals' ≡ totals ++ total ∷ []
     → totals' ≡ list_below (i + 1) (moved_total parts reading zone)
 unfolding moved_total
-moved_totals-more parts reading zone i total gained lost totals totals' held so_far read gain loss is pushed =
+moved_totals-more parts reading zone i total gained lost touch totals totals' held so_far read gain more loss less is pushed =
     pushed ∙ ap (λ (xs : List ℕ). xs ++ total ∷ []) so_far
     ∙ ap (λ n. list_below i (moved_total parts reading zone) ++ n ∷ [])
     (is ∙ ap (λ (xs : List ℕ). get_or xs i 0 + gained - lost) read
-    ∙ ap (λ n. get_or reading.totals.items i 0 + n - lost) gain
-    ∙ ap (λ n. get_or reading.totals.items i 0 + gain_of parts (slice_index (touched_rows parts reading.unit) i) reading.unit zone - n) loss)
+    ∙ ap (λ n. get_or reading.totals.items i 0 + n - lost) (more ∙ gain.is)
+    ∙ ap (λ n. get_or reading.totals.items i 0 + gain_of parts (slice_index (touched_rows parts reading.unit) i) reading.unit zone - n) (less ∙ loss.is))
     ∙ sym (list_below-more i (moved_total parts reading zone))
 
 pub moved_totals-is : (parts : Parts) (reading : Reading) (zone i : ℕ) (totals : List ℕ) → i ≡ length (touched_rows parts reading.unit) → totals ≡ list_below i (moved_total parts reading zone) → totals ≡ moved_totals parts reading zone

@@ -2,14 +2,14 @@
 use Rattle.std.proofs.Common.{◌≡◌, ℕ, ◌<◌, ◌≤◌, ◌^◌, List, [], ◌∷◌, length, map, ◌++◌, ◌+◌, take, get_or, refl, ap, sym, ◌∙◌, subst, arith}
 use Rattle.std.specs.Prelude.{IsTrue, slice_index}
 use Rattle.std.specs.List.{All}
-use Rattle.std.proofs.lemmas.List.{get_or-map, length-map, length-take-le}
+use Rattle.std.proofs.lemmas.List.{get_or-map, length-map, length-take-le, take_all}
 use Rattle.std.proofs.lemmas.List.Elements.{All-get_or, All-head, All-map, All-tail, All-weaker}
 use Rattle.mz_model.specs.declared.parts.Parts.{Parts}
 use Rattle.mz_model.specs.Boundary.{neighbours_of}
 use Rattle.mz_model.specs.Parts.{unit_count, row_count}
 use Rattle.mz_model.specs.Places.{list_below}
 use Rattle.mz_model.specs.Plans.{IsLegalPlan}
-use Rattle.mz_model.specs.Targets.{held_of, touched_rows}
+use Rattle.mz_model.specs.Targets.{amount_for, held_of, touched_rows, touches_of}
 use Rattle.mz_model.specs.Valid.{IsValid}
 use Rattle.mz_model.specs.Zones.{is_allowed}
 use Rattle.mz_model.proofs.NeighbourLaws.{neighbours_of-in_range}
@@ -43,6 +43,18 @@ totals_of_plan-more parts zones totals totals' row held so_far is pushed = pushe
 pub totals_of_plan-all : (parts : Parts) (zones totals : List ℕ) (row : ℕ) → row ≡ row_count parts → totals ≡ list_below row (held_of parts zones) → totals ≡ totals_of_plan parts zones
 unfolding totals_of_plan
 totals_of_plan-all parts zones totals row all so_far = so_far ∙ ap (λ n. list_below n (held_of parts zones)) all
+
+-- of pairs of a row and something that comes of it the rows alone
+map-firsts : (f g : ℕ → ℕ) (rows : List ℕ) → map (λ (pair : ℕ × ℕ). f pair.0) (map (λ row. (row, g row)) rows) ≡ map f rows
+map-firsts f g [] = refl
+map-firsts f g (row ∷ rows) = ap (λ ys. f row ∷ ys) (map-firsts f g rows)
+
+-- the totals of all touched rows were read
+pub touched_totals-all : (parts : Parts) (unit i : ℕ) (totals read : List ℕ) (touches : List (ℕ × ℕ)) → touches ≡ touches_of parts unit → length touches ≤ i → read ≡ map (λ (touch : ℕ × ℕ). slice_index totals touch.0) (take i (touches_of parts unit)) → read ≡ map (slice_index totals) (touched_rows parts unit)
+unfolding touches_of
+touched_totals-all parts unit i totals read touches e h so_far =
+    so_far ∙ ap (map (λ (touch : ℕ × ℕ). slice_index totals touch.0)) (take_all i (touches_of parts unit) (subst (λ (ts : List (ℕ × ℕ)). length ts ≤ i) e h))
+    ∙ map-firsts (slice_index totals) (λ row. amount_for parts row unit) (touched_rows parts unit)
 
 -- what was read of the unit and its items
 pub record IsRead (parts : Parts) (zones held : List ℕ) (reading : Reading) : Type 0 where

@@ -16,7 +16,6 @@ use mz_model::Problem;
 /// By how much the boundary round a reading's unit changes where the unit gets the zone: the terms
 /// of its pairs, each from this side alone, and of its outer length.
 pub(crate) fn boundary_change(problem: &Problem, reading: &Reading, zone: u8) -> i128
-    requires valid { IsValid problem.now }
     requires well_formed { IsWellFormed problem.now reading.now }
     requires zone { zone < zone_count problem.now }
     ensures change { result ≡ pos (boundary_around problem.now reading.now zone) -ℤ pos (boundary_around problem.now reading.now reading.now.zone) }
@@ -73,9 +72,10 @@ pub(crate) fn move_totals(problem: &Problem, reading: &Reading, zone: u8, totals
 {
     totals.clear();
     let held = reading.totals.as_slice();
-    for i in 0..problem.touches(reading.unit).len() as u32 {
-        let gained = problem.touched_gain(reading.unit, i, zone);
-        let lost = problem.touched_gain(reading.unit, i, reading.zone);
-        totals.push((held[i as usize] + gained).saturating_sub(lost));
+    let touches = problem.touches(reading.unit);
+    for (i, touch) in touches.iter().enumerate() {
+        let gained = problem.gain_from(touch.0, touch.1, zone);
+        let lost = problem.gain_from(touch.0, touch.1, reading.zone);
+        totals.push((held[i] + gained).saturating_sub(lost));
     }
 }

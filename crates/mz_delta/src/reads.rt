@@ -65,7 +65,7 @@ fn read_totals(problem: &Problem, totals: &[u64], unit: u32, read: &mut Filled<u
     ensures valid { IsValid problem.now }
 {
     read.clear();
-    for i in 0..problem.touches(unit).len() as u32 {
-        read.push(totals[problem.touched_row(unit, i) as usize]);
+    for (row, _) in problem.touches(unit) {
+        read.push(totals[*row as usize]);
     }
 }

@@ -1,14 +1,13 @@
 -- Laws of the lists that a problem keeps, as they are filled.
 use Rattle.std.proofs.Common.{◌≡◌, ℕ, ◌+◌, zero, suc, ◌*◌, ◌<◌, ◌≤◌, Bool, true, false, cond, List, [], ◌∷◌, ◌++◌, length, get_or, set, take, map, max, Option, None, Some, refl, ap, sym, ◌∙◌, subst, inl, inr, arith, ◌==◌}
-use Rattle.std.specs.Prelude.{slice_index, nat_lt, nat_le, IsSomeAnd}
-use Rattle.std.specs.Int.{bit_at}
-use Rattle.std.specs.List.{All, flat_map, filter}
-use Rattle.std.proofs.lemmas.Bool.{cases_eq, cases_lt, lt-leb, cond-true, cond-false, eq-eqb, ne_eqb, eqb-true}
+use Rattle.std.specs.Prelude.{nat_lt, nat_le, IsSomeAnd}
+use Rattle.std.specs.List.{flat_map, filter}
+use Rattle.std.proofs.lemmas.Bool.{cases_eq, cases_lt, lt-leb, cond-true, cond-false, eq-eqb, ne_eqb}
 use Rattle.std.proofs.lemmas.List.{append-nil, append_assoc, map-append, map_more, take_all, take_more, get_or-set_same, get_or-set_other, length-set}
 use Rattle.std.proofs.lemmas.List.Concat.{flat_map-append}
 use Rattle.std.proofs.lemmas.List.Elements.{filter-append, All-get_or, All-same}
 use Rattle.mz_num.specs.Round.{round}
-use Rattle.mz_num.proofs.RoundLaws.{round-mono, round-multiple}
+use Rattle.mz_num.proofs.RoundLaws.{round-multiple}
 use Rattle.std.proofs.Math.Nat.{mul-le-mul_left}
 use Rattle.mz_model.specs.declared.parts.Parts.{Parts}
 use Rattle.mz_model.specs.declared.parts.Target.{Target}
@@ -19,13 +18,11 @@ use Rattle.mz_model.specs.Groups.{filled}
 use Rattle.mz_model.specs.Parts.{unit_count, zone_count, feature_count, row_count, fraction_at, no_target, target_at}
 use Rattle.mz_model.specs.Places.{greatest_below, list_below, places_below, values_at}
 use Rattle.mz_model.specs.Targets.{counted, gain_from, gain_of, amount_for, is_touched, touched_rows, touches_of}
-use Rattle.mz_model.specs.Valid.{IsAmount, IsPair, IsValid, IsZoneRow}
-use Rattle.mz_model.specs.Zones.{is_allowed, allowed_zones, is_free, free_units}
+use Rattle.mz_model.specs.Valid.{IsPair, IsValid}
 use Rattle.mz_model.proofs.AmountLaws.{values_at-entries_of}
 use Rattle.mz_model.proofs.ListLaws.{IsRow, table-row}
-use Rattle.mz_model.proofs.PlaceLaws.{length-list_below, get_or-list_below, list_below-from, list_below-same, list_below-more, places_below-more, values_at-append, greatest_below-more, at-le-greatest_below, greatest_below-le}
+use Rattle.mz_model.proofs.PlaceLaws.{length-list_below, get_or-list_below, list_below-from, list_below-same, places_below-more, values_at-append, at-le-greatest_below, greatest_below-le}
 use Rattle.mz_model.proofs.Products.{round-positive}
-use Rattle.mz_model.proofs.TargetLaws.{gain_of-is, gain_from-is}
 
 -- ---- lists that are filled
 
@@ -80,19 +77,12 @@ neighbours-table : (parts : Parts) (lists : List (List (ℕ × ℕ))) → lists 
 unfolding neighbours_of
 neighbours-table parts lists e = e ∙ filled-empty (unit_count parts) (flat_map ends_of parts.edges)
 
-holders-table : (parts : Parts) (lists : List (List (ℕ × ℕ))) → lists ≡ filled (list_below {X = List (ℕ × ℕ)} (feature_count parts) (λ k. [])) (map holder_of parts.amounts) → lists ≡ list_below (feature_count parts) (holders_of parts.amounts)
-unfolding holders_of
-holders-table parts lists e = e ∙ filled-empty (feature_count parts) (map holder_of parts.amounts)
-
 -- empty lists, one for each place below n
 abbrev pub empty_lists : ℕ → List (List (ℕ × ℕ))
 empty_lists n = list_below {X = List (ℕ × ℕ)} n (λ k. [])
 
 pub pair-at : (parts : Parts) (edges : List (ℕ × ℕ × ℕ)) (i : ℕ) → IsValid parts → edges ≡ parts.edges → i < length edges → IsPair (unit_count parts) (get_or edges i (0, 0, 0))
 pair-at parts edges i valid e h = All-get_or (IsPair (unit_count parts)) edges i (0, 0, 0) h (All-same (IsPair (unit_count parts)) edges parts.edges e valid.shape.pairs)
-
-pub amount-at : (parts : Parts) (rows : List (ℕ × ℕ × ℕ)) (i : ℕ) → IsValid parts → rows ≡ parts.amounts → i < length rows → IsAmount (unit_count parts) (feature_count parts) (get_or rows i (0, 0, 0))
-amount-at parts rows i valid e h = All-get_or (IsAmount (unit_count parts) (feature_count parts)) rows i (0, 0, 0) h (All-same (IsAmount (unit_count parts) (feature_count parts)) rows parts.amounts e valid.shape.amounts)
 
 -- as many lists as before
 pub length-empty-filled : (n : ℕ) (lists : List (List (ℕ × ℕ))) (es : List (ℕ × (ℕ × ℕ))) → lists ≡ filled (empty_lists n) es → length lists ≡ n
@@ -124,8 +114,13 @@ holders-more n rows i lists one h inside now pushed =
     filled-push (empty_lists n) lists one (map holder_of (take i rows)) row.1 (row.0, row.2) now (omega arith) pushed
     ∙ ap (filled (empty_lists n)) (sym (map_more holder_of rows i (0, 0, 0) h))
 
-pub holders-done : (parts : Parts) (rows : List (ℕ × ℕ × ℕ)) (i : ℕ) (lists : List (List (ℕ × ℕ))) → rows ≡ parts.amounts → length rows ≤ i → lists ≡ filled (empty_lists (feature_count parts)) (map holder_of (take i rows)) → lists ≡ list_below (feature_count parts) (holders_of parts.amounts)
-holders-done parts rows i lists e h now = holders-table parts lists (now ∙ ap (λ rs. filled (empty_lists (feature_count parts)) (map holder_of rs)) (take_all i rows h ∙ e))
+pub holders-done : (n : ℕ) (rows : List (ℕ × ℕ × ℕ)) (i : ℕ) (lists : List (List (ℕ × ℕ))) → length rows ≤ i → lists ≡ filled (empty_lists n) (map holder_of (take i rows)) → lists ≡ list_below n (holders_of rows)
+unfolding holders_of
+holders-done n rows i lists h now = now ∙ ap (λ rs. filled (empty_lists n) (map holder_of rs)) (take_all i rows h) ∙ filled-empty n (map holder_of rows)
+
+-- the lists by feature, of the rows and the number of features as they were read
+pub holders-are : (parts : Parts) (rows : List (ℕ × ℕ × ℕ)) (n : ℕ) (lists : List (List (ℕ × ℕ))) → rows ≡ parts.amounts → n ≡ feature_count parts → lists ≡ list_below n (holders_of rows) → lists ≡ list_below (feature_count parts) (holders_of parts.amounts)
+holders-are parts rows n lists e f is = is ∙ ap (λ rs. list_below n (holders_of rs)) e ∙ ap (λ m. list_below m (holders_of parts.amounts)) f
 
 -- ---- touched rows
 

@@ -10,7 +10,7 @@ use Rattle.mz_model.specs.Examples.{three_units, three_zones, unheld_features, n
 use Rattle.mz_model.specs.Scores.{boundary_of_plan, cost_of_plan, outer_term, pair_term, penalty_of_plan, penalty_term_of, score_of_plan}
 use Rattle.mz_model.specs.Targets.{amount_for, gain_from, gain_of, held_of, is_touched, shortfall_of, touched_rows}
 use Rattle.mz_model.specs.Valid.{IsValid}
-use Rattle.mz_model.specs.Zones.{allowed_zones, counts_of, free_units, is_free, step_of}
+use Rattle.mz_model.specs.Zones.{allowed_zones, free_units, is_free, step_of}
 use Rattle.mz_model.proofs.Checked.{valid_from}
 
 pub three_units-valid : IsValid three_units

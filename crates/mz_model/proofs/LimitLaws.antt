@@ -1,7 +1,6 @@
 -- Laws of the limits: what a valid problem's terms come to.
-use Rattle.std.proofs.Common.{◌≡◌, ℕ, ◌+◌, ◌*◌, ◌^◌, ◌<◌, ◌≤◌, List, length, get_or, refl, ap, sym, ◌∙◌, subst, arith}
+use Rattle.std.proofs.Common.{◌≡◌, ℕ, ◌+◌, ◌*◌, ◌^◌, ◌<◌, ◌≤◌, length, refl, sym, subst, arith}
 use Rattle.std.specs.Prelude.{slice_index}
-use Rattle.std.specs.List.{All}
 use Rattle.std.proofs.lemmas.List.Elements.{All-get_or}
 use Rattle.std.proofs.lemmas.Nat.{mul-add-lt}
 use Rattle.std.proofs.Math.Nat.{mul-le-mul_left}
@@ -9,7 +8,7 @@ use Rattle.mz_num.specs.Round.{round}
 use Rattle.mz_num.proofs.RoundLaws.{round-mono}
 use Rattle.mz_model.specs.declared.parts.Parts.{Parts}
 use Rattle.mz_model.specs.Boundary.{edge_term_of, greatest_rate, IsLength}
-use Rattle.mz_model.specs.Parts.{unit_count, zone_count, feature_count, row_count, cost_at, rate_at, outer_at, target_at}
+use Rattle.mz_model.specs.Parts.{unit_count, zone_count, row_count, cost_at, rate_at, outer_at}
 use Rattle.mz_model.specs.Places.{sum_below, greatest_below}
 use Rattle.mz_model.specs.Targets.{gain_of}
 use Rattle.mz_model.specs.Valid.{IsValid}

@@ -1,5 +1,5 @@
 -- Laws of lists by place that are filled in any order, and of a table of lists.
-use Rattle.std.proofs.Common.{◌≡◌, ℕ, ◌+◌, ◌<◌, List, [], ◌∷◌, ◌++◌, length, get_or, set, map, refl, ap, sym, ◌∙◌, arith}
+use Rattle.std.proofs.Common.{◌≡◌, ℕ, ◌+◌, ◌<◌, List, [], ◌∷◌, ◌++◌, length, get_or, set, map, ap, sym, ◌∙◌, arith}
 use Rattle.std.proofs.lemmas.List.{length-map, map_push, map-set, get_or-map}
 use Rattle.mz_model.specs.Places.{list_below}
 use Rattle.mz_model.proofs.PlaceLaws.{length-list_below, get_or-list_below, list_below-more}

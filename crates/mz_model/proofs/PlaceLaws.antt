@@ -1,6 +1,6 @@
 -- Laws of sums, greatest values and lists over the places below a number.
 use Rattle.std.proofs.Common.{◌≡◌, ℕ, zero, suc, ◌+◌, ◌*◌, ◌<◌, ◌≤◌, max, Bool, true, false, cond, List, [], ◌∷◌, ◌++◌, length, get_or, refl, ap, sym, ◌∙◌, subst, add-one, arith, inl, inr, ◌==◌}
-use Rattle.std.specs.List.{All, AllPairs, Contains, filter, range_with_len, count_by, position_or_len}
+use Rattle.std.specs.List.{All, AllPairs, Contains, range_with_len, count_by, position_or_len}
 use Rattle.std.proofs.lemmas.Bool.{cases_eq, cases_lt, cond-true, cond-false, eqb-true, eq-eqb, both_ways}
 use Rattle.std.proofs.lemmas.List.{append-nil, map-id}
 use Rattle.std.proofs.lemmas.List.Elements.{All-nil, All-cons, All-head, All-tail, All-filter, All-from_get_or, filter_passes, Contains-push, Contains-append_left}

@@ -1,13 +1,12 @@
 -- Laws of the score: its sums, and that none is above 10^25.
-use Rattle.std.proofs.Common.{◌≡◌, ℕ, ◌+◌, ◌*◌, ◌^◌, ◌<◌, ◌≤◌, List, length, get_or, take, refl, ap, sym, ◌∙◌, arith}
-use Rattle.std.specs.Prelude.{IsTrue, slice_index}
-use Rattle.std.specs.List.{All, sum_by}
-use Rattle.std.proofs.lemmas.List.Elements.{All-get_or}
-use Rattle.std.proofs.lemmas.List.Sums.{sum_by_more, sum_by-le, sum_by-take-le}
+use Rattle.std.proofs.Common.{◌≡◌, ℕ, ◌+◌, ◌^◌, ◌<◌, ◌≤◌, List, get_or, refl, ap, ◌∙◌, arith}
+use Rattle.std.specs.Prelude.{slice_index}
+use Rattle.std.specs.List.{sum_by}
+use Rattle.std.proofs.lemmas.List.Sums.{sum_by-le}
 use Rattle.mz_model.specs.declared.parts.Parts.{Parts}
 use Rattle.mz_model.specs.declared.score.Score.{Score}
 use Rattle.mz_model.specs.Boundary.{edge_term_of, IsLength}
-use Rattle.mz_model.specs.Parts.{unit_count, zone_count, row_count, cost_at, outer_at, target_at}
+use Rattle.mz_model.specs.Parts.{unit_count, zone_count, row_count, cost_at, outer_at}
 use Rattle.mz_model.specs.Places.{sum_below}
 use Rattle.mz_model.specs.Plans.{IsLegalPlan}
 use Rattle.mz_model.specs.Scores.{cost_of_plan, pair_term, outer_term, boundary_of_plan, penalty_term_of, penalty_of_plan, score_of_plan}

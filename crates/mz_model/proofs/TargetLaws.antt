@@ -1,22 +1,22 @@
 -- Laws of target rows: gains, shortfalls and penalties.
-use Rattle.std.proofs.Common.{◌≡◌, ℕ, ◌+◌, ◌-◌, ◌*◌, ◌^◌, ◌<◌, ◌≤◌, Bool, true, false, cond, List, length, get_or, take, Option, None, Some, max, refl, ap, sym, ◌∙◌, subst, inl, inr, arith, ◌==◌}
-use Rattle.std.specs.Prelude.{slice_index, nat_lt, nat_le}
-use Rattle.std.specs.List.{All, sum_by}
-use Rattle.std.proofs.lemmas.Bool.{cases_lt, cases_eq, cond-true, cond-false, lt-ltb, le-ltb, eq-eqb, ne_eqb}
+use Rattle.std.proofs.Common.{◌≡◌, ℕ, ◌+◌, ◌-◌, ◌*◌, ◌^◌, ◌<◌, ◌≤◌, true, false, cond, List, length, get_or, take, Option, None, Some, refl, ap, sym, ◌∙◌, inl, inr, arith, ◌==◌}
+use Rattle.std.specs.Prelude.{slice_index, nat_lt}
+use Rattle.std.specs.List.{sum_by}
+use Rattle.std.proofs.lemmas.Bool.{cases_lt, cond-true, cond-false, lt-ltb, le-ltb}
 use Rattle.std.proofs.lemmas.List.Elements.{All-weaker}
 use Rattle.std.proofs.lemmas.List.Sums.{get_or-le-sum_by, sum_by_more, sum_by_more_le}
 use Rattle.mz_num.specs.Round.{round}
-use Rattle.mz_num.proofs.RoundLaws.{round-mono, round-le, round-multiple}
+use Rattle.mz_num.proofs.RoundLaws.{round-le}
 use Rattle.mz_model.specs.declared.parts.Parts.{Parts}
 use Rattle.mz_model.specs.declared.parts.Target.{Target}
-use Rattle.mz_model.specs.Amounts.{amount_of, holders_of}
+use Rattle.mz_model.specs.Amounts.{holders_of}
 use Rattle.mz_model.specs.Parts.{unit_count, zone_count, feature_count, row_count, fraction_at, target_at}
 use Rattle.mz_model.specs.Places.{sum_below, greatest_below}
 use Rattle.mz_model.specs.Scores.{penalty_term_of}
 use Rattle.mz_model.specs.Targets.{counted, gain_from, amount_for, gain_of, held_of, shortfall_of}
-use Rattle.mz_model.specs.Valid.{IsValid, IsAmount, IsBefore}
+use Rattle.mz_model.specs.Valid.{IsValid, IsAmount}
 use Rattle.mz_model.proofs.AmountLaws.{sum_by-holders_of}
-use Rattle.mz_model.proofs.PlaceLaws.{sum_below-mono, at-le-greatest_below, greatest_below-le}
+use Rattle.mz_model.proofs.PlaceLaws.{sum_below-mono, at-le-greatest_below}
 use Rattle.mz_model.proofs.Products.{part-le}
 
 -- ---- gains

@@ -1,10 +1,10 @@
 -- Laws of allowed zones and free units.
-use Rattle.std.proofs.Common.{◌≡◌, ℕ, ◌+◌, ◌%◌, ◌^◌, ◌<◌, ◌≤◌, Bool, true, false, List, [], ◌++◌, ◌∷◌, length, get_or, map, take, refl, ap, sym, ◌∙◌, subst, arith, inl, inr, ◌==◌}
-use Rattle.std.specs.Prelude.{IsTrue, slice_index, nat_lt}
-use Rattle.std.specs.Int.{bit_at, w64}
+use Rattle.std.proofs.Common.{◌≡◌, ℕ, ◌+◌, ◌%◌, ◌^◌, ◌<◌, ◌≤◌, true, false, List, [], ◌++◌, ◌∷◌, length, get_or, map, take, refl, ap, sym, ◌∙◌, subst, arith, inl, inr, ◌==◌}
+use Rattle.std.specs.Prelude.{IsTrue}
+use Rattle.std.specs.Int.{bit_at}
 use Rattle.std.specs.List.{All, Contains, position_or_len}
 use Rattle.std.proofs.lemmas.Bool.{cases_lt, eqb-true, ne_eqb, ltb-true, lt-ltb, le-ltb}
-use Rattle.std.proofs.lemmas.List.{length-map, get_or-map, map_more, take_all}
+use Rattle.std.proofs.lemmas.List.{length-map, map_more, take_all}
 use Rattle.std.proofs.lemmas.List.Elements.{All-get_or, All-map, All-same, All-weaker}
 use Rattle.std.proofs.lemmas.Nat.{mod_below}
 use Rattle.std.proofs.lemmas.Nat.Bits.{bit_at_above}

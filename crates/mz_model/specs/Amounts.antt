@@ -1,5 +1,5 @@
 -- Amounts of features in units, as rows (unit, feature, amount).
-use Rattle.std.specs.Prelude.{ℕ, Bool, cond, List, [], ◌∷◌, map, ◌==◌, ◌&&◌}
+use Rattle.std.specs.Prelude.{ℕ, cond, List, [], ◌∷◌, map, ◌==◌, ◌&&◌}
 use Rattle.std.specs.List.{sum_by}
 use Rattle.mz_model.specs.Places.{values_at}
 

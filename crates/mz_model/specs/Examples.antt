@@ -1,5 +1,5 @@
 -- Small problems, written out. Amounts, costs and lengths are in ten-thousandths, rates and fractions in millionths.
-use Rattle.std.specs.Prelude.{ℕ, List, [], ◌∷◌, None, Some}
+use Rattle.std.specs.Prelude.{[], ◌∷◌, None, Some}
 use Rattle.mz_model.specs.declared.parts.Parts.{Parts}
 use Rattle.mz_model.specs.declared.parts.Target.{Target}
 

@@ -1,5 +1,5 @@
 -- The parts of a problem by place: how many there are of each kind, and what stands at a place.
-use Rattle.std.specs.Prelude.{ℕ, ◌+◌, ◌*◌, List, length, slice_index, slice_index_or, None}
+use Rattle.std.specs.Prelude.{ℕ, ◌+◌, ◌*◌, length, slice_index, slice_index_or, None}
 use Rattle.mz_model.specs.declared.parts.Parts.{Parts}
 use Rattle.mz_model.specs.declared.parts.Target.{Target}
 

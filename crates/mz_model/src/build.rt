@@ -13,6 +13,7 @@ ghost use Rattle.mz_model.specs.Valid.{IsInShape, IsValid};
 ghost use Rattle.mz_model.specs.Zones.{allowed_zones, counts_of, free_units};
 
 use crate::groups::Groups;
+use crate::holders::holders_by_feature;
 use crate::lists::Lists;
 use crate::parts::{Parts, Target};
 use crate::problem::Problem;
@@ -29,7 +30,8 @@ impl Problem {
         let free = free_of(alloc, &parts, &zones)?;
         let counts = counts_of_free(alloc, &parts, &zones, free.as_slice())?;
         let neighbours = neighbours_by_unit(alloc, &parts)?;
-        let holders = holders_by_feature(alloc, &parts)?;
+        let features = parts.feature_ids.len() as u32;
+        let holders = holders_by_feature(alloc, parts.amounts.as_slice(), features)?;
         let touches = touches_by_unit(alloc, &parts, &holders)?;
         Ok(Problem {
             parts,
@@ -119,19 +121,6 @@ fn neighbours_by_unit(alloc: Global, parts: &Parts) -> Result<Groups<(u32, u64)>
     for (first, second, len) in edges {
         lists.push(*first as usize, (*second, *len))?;
         lists.push(*second as usize, (*first, *len))?;
-    }
-    lists.compressed(alloc)
-}
-
-/// The units that hold each feature, with their amounts.
-fn holders_by_feature(alloc: Global, parts: &Parts) -> Result<Groups<(u32, u64)>, NoMemory>
-    requires { IsValid parts.now }
-    ensures { IfOk result (λ holders. holders ≡ list_below (feature_count parts.now) (holders_of parts.now.amounts)) }
-{
-    let mut lists = Lists::new(alloc, parts.feature_ids.len())?;
-    let amounts = parts.amounts.as_slice();
-    for (unit, feature, amount) in amounts {
-        lists.push(*feature as usize, (*unit, *amount))?;
     }
     lists.compressed(alloc)
 }

@@ -5,7 +5,8 @@ use mz_num::NoMemory;
 use std::alloc::Global;
 use std::marker::Model;
 
-/// A list for each place from 0, compressed: all items in a row, and where each list starts.
+/// A list for each place from 0. They stand compressed: all items in a row, and where each list
+/// starts.
 #[derive(Debug, Drop)]
 pub struct Groups<T: Copy> {
     starts: Vec<usize>,

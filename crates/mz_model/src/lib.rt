@@ -6,6 +6,7 @@
 
 mod build;
 mod groups;
+mod holders;
 mod lists;
 mod parts;
 mod plan;
@@ -14,6 +15,8 @@ mod product;
 mod score;
 mod scoring;
 
+pub use groups::Groups;
+pub use holders::holders_by_feature;
 pub use parts::{Parts, Target};
 pub use plan::{Plan, PlanFault};
 pub use problem::Problem;

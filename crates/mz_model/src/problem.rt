@@ -60,6 +60,7 @@ impl Problem {
         ensures count { result ≡ zone_count self.now }
         ensures some_zone { 0 < result }
         ensures small { result ≤ 60 }
+        ensures valid { IsValid self.now }
     {
         self.parts.zone_ids.len() as u8
     }
@@ -178,6 +179,7 @@ impl Problem {
         requires { unit < unit_count self.now }
         ensures count { result ≡ length (neighbours_of self.now unit) }
         ensures small { result ≤ 2000000 }
+        ensures valid { IsValid self.now }
     {
         self.neighbours(unit).len() as u32
     }
@@ -190,6 +192,7 @@ impl Problem {
         ensures units { All (λ pair. pair.0 < unit_count self.now) result.now }
         ensures lengths { All (λ pair. IsLength self.now pair.1) result.now }
         ensures small { length result.now ≤ 2000000 }
+        ensures valid { IsValid self.now }
     {
         self.neighbours.at(unit as usize)
     }
@@ -271,6 +274,7 @@ impl Problem {
         requires { unit < unit_count self.now }
         ensures count { result ≡ length (touched_rows self.now unit) }
         ensures small { result ≤ row_count self.now }
+        ensures valid { IsValid self.now }
     {
         self.touches(unit).len() as u32
     }
@@ -374,9 +378,10 @@ impl Problem {
         self.holders.at(feature as usize)
     }
 
-    /// What an amount of a row's feature counts for the row in a zone.
+    /// What an amount of a row's feature counts for the row in a zone. The amount is that of a unit
+    /// that touches the row.
     #[inline]
-    pub(crate) fn gain_from(&self, t: u32, amount: u64, zone: u8) -> u64
+    pub fn gain_from(&self, t: u32, amount: u64, zone: u8) -> u64
         requires row { t < row_count self.now }
         requires zone { zone < zone_count self.now }
         requires fits { gain_from self.now t amount zone ≤ 10 ^ 18 }

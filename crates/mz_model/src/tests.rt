@@ -1,3 +1,4 @@
+mod holders;
 mod places;
 mod problems;
 mod scores;

@@ -12,13 +12,13 @@ use Rattle.mz_delta.proofs.DifferenceLaws.{same_difference}
 use Rattle.mz_delta.proofs.neighbourhood.boundary_change.Goals as goal
 
 pub edge_term-old_term-requires-clause-first : goal.edge_term-old_term-requires-clause-first
-edge_term-old_term-requires-clause-first c = is_allowed-in_range c.args.problem.now c.args.reading.now.unit c.args.reading.now.zone c.requires.valid c.requires.well_formed.unit c.requires.well_formed.zone
+edge_term-old_term-requires-clause-first c = is_allowed-in_range c.args.problem.now c.args.reading.now.unit c.args.reading.now.zone c.neighbours-neighbours.ensures.valid c.requires.well_formed.unit c.requires.well_formed.zone
 
 pub edge_term-old_term-requires-clause-second : goal.edge_term-old_term-requires-clause-second
-edge_term-old_term-requires-clause-second c = neighbour-in_range c.args.problem.now c.args.reading.now c.neighbours-neighbours.result.now c.as_slice-zones.result.now c.loop-i.i c.requires.valid c.requires.well_formed c.neighbours-neighbours.ensures.pairs c.as_slice-zones.ensures c.loop-i-test.true
+edge_term-old_term-requires-clause-second c = neighbour-in_range c.args.problem.now c.args.reading.now c.neighbours-neighbours.result.now c.as_slice-zones.result.now c.loop-i.i c.neighbours-neighbours.ensures.valid c.requires.well_formed c.neighbours-neighbours.ensures.pairs c.as_slice-zones.ensures c.loop-i-test.true
 
 pub edge_term-new_term-requires-clause-second : goal.edge_term-new_term-requires-clause-second
-edge_term-new_term-requires-clause-second c = neighbour-in_range c.args.problem.now c.args.reading.now c.neighbours-neighbours.result.now c.as_slice-zones.result.now c.loop-i.i c.requires.valid c.requires.well_formed c.neighbours-neighbours.ensures.pairs c.as_slice-zones.ensures c.loop-i-test.true
+edge_term-new_term-requires-clause-second c = neighbour-in_range c.args.problem.now c.args.reading.now c.neighbours-neighbours.result.now c.as_slice-zones.result.now c.loop-i.i c.neighbours-neighbours.ensures.valid c.requires.well_formed c.neighbours-neighbours.ensures.pairs c.as_slice-zones.ensures c.loop-i-test.true
 
 pub loop-i-preserved : goal.loop-i-preserved
 loop-i-preserved c =
@@ -32,7 +32,7 @@ loop-i-preserved c =
     }
 
 pub edge_term-old_outer-requires-clause-first : goal.edge_term-old_outer-requires-clause-first
-edge_term-old_outer-requires-clause-first c = is_allowed-in_range c.args.problem.now c.args.reading.now.unit c.args.reading.now.zone c.requires.valid c.requires.well_formed.unit c.requires.well_formed.zone
+edge_term-old_outer-requires-clause-first c = is_allowed-in_range c.args.problem.now c.args.reading.now.unit c.args.reading.now.zone c.neighbours-neighbours.ensures.valid c.requires.well_formed.unit c.requires.well_formed.zone
 
 pub returns-clause-change : goal.returns-clause-change
 returns-clause-change c =

@@ -1,4 +1,4 @@
-use Rattle.std.proofs.Common.{◌≡◌, ℕ, List, [], take}
+use Rattle.std.proofs.Common.{◌≡◌, take}
 use Rattle.mz_model.specs.Built.{touching}
 use Rattle.mz_model.specs.Groups.{filled}
 use Rattle.mz_model.proofs.build.add_touches.Given as goal

@@ -1,4 +1,4 @@
-use Rattle.std.proofs.Common.{◌≡◌, ℕ}
+use Rattle.std.proofs.Common.{◌≡◌}
 use Rattle.mz_model.specs.Parts.{unit_count}
 use Rattle.mz_model.specs.Places.{list_below}
 use Rattle.mz_model.proofs.BuildLaws.{touches_upto}

@@ -1,4 +1,4 @@
-use Rattle.std.proofs.Common.{◌≡◌, ◌∙◌, ap, get_or, refl}
+use Rattle.std.proofs.Common.{◌≡◌, ◌∙◌, ap, get_or}
 use Rattle.mz_model.specs.Zones.{allowed_zones}
 use Rattle.mz_model.proofs.ListLaws.{table-more}
 use Rattle.mz_model.proofs.ZoneLaws.{allowed_zones-is}

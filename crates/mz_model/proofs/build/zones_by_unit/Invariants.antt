@@ -1,4 +1,4 @@
-use Rattle.std.proofs.Common.{◌≡◌, ℕ}
+use Rattle.std.proofs.Common.{◌≡◌}
 use Rattle.mz_model.specs.Places.{list_below}
 use Rattle.mz_model.specs.Zones.{allowed_zones}
 use Rattle.mz_model.proofs.build.zones_by_unit.Given as goal

@@ -1,6 +1,5 @@
-use Rattle.std.proofs.Common.{◌≡◌, ℕ, ◌<◌, length, eq-eqb, refl, arith, sym, ◌==◌}
+use Rattle.std.proofs.Common.{length, eq-eqb, arith, sym, ◌==◌}
 use Rattle.std.proofs.lemmas.List.Sums.{position_or_len_is}
-use Rattle.mz_model.proofs.AmountLaws.{AllPairs-tail}
 use Rattle.mz_model.proofs.problem.place_of.Goals as goal
 
 pub returns-then-k-zone : goal.returns-then-k-zone

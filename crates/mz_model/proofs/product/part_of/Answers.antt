@@ -1,5 +1,4 @@
-use Rattle.std.proofs.Common.{◌*◌, ◌≤◌, ◌^◌, arith}
-use Rattle.mz_num.specs.Round.{round}
+use Rattle.std.proofs.Common.{◌*◌, arith}
 use Rattle.mz_model.proofs.Products.{half_up_of, part-le}
 use Rattle.mz_model.proofs.product.part_of.Goals as goal
 

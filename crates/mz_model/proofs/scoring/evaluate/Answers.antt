@@ -1,6 +1,5 @@
-use Rattle.std.proofs.Common.{◌≡◌, ◌+◌, ℕ, ◌∙◌, ap, sym, arith}
-use Rattle.mz_model.specs.declared.score.Score.{Score}
-use Rattle.mz_model.specs.Scores.{boundary_of_plan, cost_of_plan, penalty_of_plan}
+use Rattle.std.proofs.Common.{◌≡◌, ◌+◌, arith}
+use Rattle.mz_model.specs.Scores.{boundary_of_plan}
 use Rattle.mz_model.proofs.ScoreLaws.{boundary_of_plan-is, score_of}
 use Rattle.mz_model.proofs.scoring.evaluate.Goals as goal
 

@@ -1,4 +1,4 @@
-use Rattle.std.proofs.Common.{◌≡◌, ◌≤◌, ◌^◌, ◌<◌, ◌∙◌, ap, sym, subst, get_or, arith}
+use Rattle.std.proofs.Common.{◌≤◌, ◌^◌, ◌∙◌, ap, get_or, arith}
 use Rattle.std.proofs.lemmas.List.{take_all}
 use Rattle.mz_model.specs.Targets.{gain_from}
 use Rattle.mz_model.proofs.ScoreLaws.{plan-in_range}

@@ -1,4 +1,4 @@
-use Rattle.std.proofs.Common.{◌≡◌, ◌<◌, ◌∙◌, ap, sym, arith}
+use Rattle.std.proofs.Common.{◌≡◌, ◌∙◌, ap, sym, arith}
 use Rattle.std.specs.Prelude.{slice_index}
 use Rattle.mz_model.specs.Boundary.{edge_term_of}
 use Rattle.mz_model.specs.Parts.{outer_at}

@@ -1,8 +1,4 @@
-use Rattle.mz_model.proofs.ListLaws.{item_more, table-row}
-use Rattle.mz_model.proofs.NeighbourLaws.{length-neighbours_of}
-use Rattle.mz_model.proofs.TouchLaws.{length-touches_of}
-use Rattle.mz_model.proofs.ZoneLaws.{step-to}
-use Rattle.mz_model.proofs.LimitLaws.{cost_at-le}
+use Rattle.mz_model.proofs.ListLaws.{item_more}
 use Rattle.mz_model.proofs.lists.Lists.push.Goals as goal
 
 pub returns : goal.returns

@@ -1,4 +1,4 @@
-use Rattle.std.proofs.Common.{◌≡◌, ◌≤◌, ◌∙◌, ap, subst, length}
+use Rattle.std.proofs.Common.{◌≤◌, ◌∙◌, ap, subst, length}
 use Rattle.std.proofs.lemmas.List.Elements.{All-same}
 use Rattle.mz_model.specs.Valid.{IsValid}
 use Rattle.mz_model.specs.Zones.{counts_of}

@@ -1,4 +1,4 @@
-use Rattle.std.proofs.Common.{◌≡◌, ◌<◌, ◌∙◌, ap, sym, length}
+use Rattle.std.proofs.Common.{◌<◌, ◌∙◌, ap, sym, length}
 use Rattle.std.proofs.lemmas.List.Elements.{All-same}
 use Rattle.mz_model.specs.Parts.{unit_count}
 use Rattle.mz_model.specs.Zones.{free_units}

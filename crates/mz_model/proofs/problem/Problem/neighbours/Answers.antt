@@ -1,4 +1,4 @@
-use Rattle.std.proofs.Common.{◌≡◌, ◌<◌, ◌≤◌, ◌∙◌, ap, subst, length, ℕ, arith}
+use Rattle.std.proofs.Common.{◌<◌, ◌∙◌, ap, subst, length, ℕ, arith}
 use Rattle.std.proofs.lemmas.List.Elements.{All-same}
 use Rattle.mz_model.specs.declared.parts.Parts.{Parts}
 use Rattle.mz_model.specs.Boundary.{IsLength, neighbours_of}
