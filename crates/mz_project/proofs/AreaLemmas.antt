@@ -1,20 +1,15 @@
--- The files up to that of the zone costs, and the whole project.
-use Rattle.std.proofs.Common.{◌≡◌, ℕ, List, Result, Ok, Err, refl, sym, subst}
+-- The files up to that of the zone costs.
+use Rattle.std.proofs.Common.{ℕ, List, Result, Ok, Err, refl}
 use Rattle.mz_shelf.specs.State.{State}
 use Rattle.mz_params.specs.declared.params.Params.{Params}
-use Rattle.mz_model.specs.declared.parts.Parts.{Parts}
 use Rattle.mz_units.specs.declared.named.CostList.{CostList}
 use Rattle.mz_units.specs.declared.named.ZoneList.{ZoneList}
 use Rattle.mz_units.specs.declared.units.UnitList.{UnitList}
 use Rattle.mz_project.specs.declared.area.Area.{Area}
 use Rattle.mz_project.specs.declared.fault.ReadFault.{ReadFault}
-use Rattle.mz_project.specs.declared.fault.ReadFault.TheVariants.{NoMemory}
 use Rattle.mz_project.specs.Area.{area_of, area_read, available_place, costs_read, multipliers_read, read_behind_available, read_behind_costs, read_behind_units, read_behind_zones, units_read, zones_read}
-use Rattle.mz_project.specs.Limits.{limited_parts}
-use Rattle.mz_project.specs.Project.{project_read, read_behind_area}
-use Rattle.mz_project.specs.ReadAs.{IsGiven, IsStopped, OnlyRead, ReadAs, TakenAs}
+use Rattle.mz_project.specs.ReadAs.{IsGiven, IsStopped, ReadAs, TakenAs}
 use Rattle.mz_project.specs.Reads.{taken}
-use Rattle.mz_project.specs.Sets.{allowed_read}
 use Rattle.mz_project.proofs.ReadLemmas.{by_default, goes_on, is_taken, stops}
 
 -- behind the zones
@@ -62,28 +57,3 @@ area_given params zones available costs units multipliers old one two three new 
     units_on params zones available costs units old one two three new (Ok (area_of zones available costs units multipliers)) given place given_costs given_units
     (goes_on (multipliers_read params zones available costs) (λ many _. taken (Ok (area_of zones available costs units many))) multipliers three new new (Ok (area_of zones available costs units multipliers)) given_multipliers
     (by_default (area_of zones available costs units multipliers) (area_of zones available costs units multipliers) new refl))
-
--- the whole project
-area_on : (params : Params) (area : Area) (old mid new : State) (answer : Result Parts ReadFault) → IsGiven (area_read params) old mid area → ReadAs (read_behind_area params area) mid new answer → ReadAs (project_read params) old new answer
-unfolding project_read
-area_on params area old mid new answer given later = goes_on (area_read params) (read_behind_area params) area old mid new answer given later
-
-pub area_stop : (params : Params) (old new : State) (fault : ReadFault) → IsStopped (area_read params) old new fault → IsStopped (project_read params) old new fault
-unfolding project_read
-area_stop params old new fault stopped = stops (area_read params) (read_behind_area params) old new fault stopped
-
-pub allowed_stop : (params : Params) (area : Area) (old mid new : State) (fault : ReadFault) → IsGiven (area_read params) old mid area → IsStopped (allowed_read params area) mid new fault → IsStopped (project_read params) old new fault
-allowed_stop params area old mid new fault given stopped = area_on params area old mid new (Err fault) given (stops (allowed_read params area) (λ allowed _. taken (limited_parts params area allowed)) mid new fault stopped)
-
-pub limits_end : (params : Params) (area : Area) (allowed : List ℕ) (old mid new : State) (answer : Result Parts ReadFault) → IsGiven (area_read params) old mid area → IsGiven (allowed_read params area) mid new allowed
-    → TakenAs (limited_parts params area allowed) answer → ReadAs (project_read params) old new answer
-limits_end params area allowed old mid new answer given sets is =
-    area_on params area old mid new answer given (goes_on (allowed_read params area) (λ a _. taken (limited_parts params area a)) allowed mid new new answer sets (is_taken (limited_parts params area allowed) new answer is))
-
-pub memory_ends : (params : Params) (area : Area) (allowed : List ℕ) (old mid new : State) → IsGiven (area_read params) old mid area → IsGiven (allowed_read params area) mid new allowed → OnlyRead old new
-memory_ends params area allowed old mid new given sets = limits_end params area allowed old mid new (Err NoMemory) given sets tt
-
-pub problem_given : (params : Params) (area : Area) (allowed : List ℕ) (parts problem : Parts) (old mid new : State) → IsGiven (area_read params) old mid area → IsGiven (allowed_read params area) mid new allowed
-    → TakenAs (limited_parts params area allowed) (Ok parts) → problem ≡ parts → IsGiven (project_read params) old new problem
-problem_given params area allowed parts problem old mid new given sets is same =
-    subst (IsGiven (project_read params) old new) (sym same) (limits_end params area allowed old mid new (Ok parts) given sets is)

@@ -8,9 +8,10 @@ use Rattle.mz_model.proofs.PlaceLaws.{list_below-from, sum_below-same, at-le-sum
 use Rattle.mz_units.specs.Terms.{AreCostTerms, HasCosts}
 use Rattle.mz_project.specs.declared.area.Area.{Area}
 use Rattle.mz_project.specs.Fits.{FitsArea}
-use Rattle.mz_project.specs.Limits.{is_above, is_dear, raw_cost, greatest_cost}
+use Rattle.mz_project.specs.Limits.{is_above, costs_are_above, raw_cost, greatest_cost}
 use Rattle.mz_project.specs.Parts.{term_of, terms_of}
-use Rattle.mz_project.proofs.PairLemmas.{first-below, second-below, pair-whole}
+use Rattle.mz_project.proofs.BelowLemmas.{or_true, right_false}
+use Rattle.mz_rows.proofs.PairLemmas.{first-below, second-below, pair-whole}
 
 -- the terms of an area
 abbrev pub AreTerms : Area → List ℕ → Type 0
@@ -43,10 +44,6 @@ greatest_is area terms units zones units_are zones_are are =
     ∙ sum_below-same (length area.units.ids) (λ unit. greatest_below (length area.zones.ids) (λ zone. slice_index terms (unit * length area.zones.ids + zone))) (λ unit. greatest_below (length area.zones.ids) (term_of area unit))
     (λ unit below. greatest_below-same (length area.zones.ids) (λ zone. slice_index terms (unit * length area.zones.ids + zone)) (term_of area unit) (λ zone within. are.each unit zone below within))
 
-or_right : (a b : Bool) → b ≡ true → (a || b) ≡ true
-or_right true b e = refl
-or_right false b e = e
-
 or_left : (a b : Bool) → a ≡ true → (a || b) ≡ true
 or_left a b e = ap (λ c. c || b) e
 
@@ -60,25 +57,25 @@ dear_at area unit zone below within above =
     omega (arith, above, in_zone, in_sum)
 
 -- one term above the limit is enough
-dear_term : (area : Area) (terms : List ℕ) (k : ℕ) → AreTerms area terms → k < length terms → 10 ^ 18 < slice_index terms k → is_dear area ≡ true
-unfolding is_dear
+dear_term : (area : Area) (terms : List ℕ) (k : ℕ) → AreTerms area terms → k < length terms → 10 ^ 18 < slice_index terms k → costs_are_above area ≡ true
+unfolding costs_are_above
 dear_term area terms k are within above =
     let below : k < length area.units.ids * length area.zones.ids = subst (λ n. k < n) are.all_pairs within in
-    or_right (is_above (raw_cost area)) (is_above (greatest_cost area))
+    or_true (is_above (raw_cost area)) (is_above (greatest_cost area))
     (lt-ltb (10 ^ 18) (greatest_cost area)
     (dear_at area (k / length area.zones.ids) (k % length area.zones.ids) (first-below k (length area.units.ids) (length area.zones.ids) below) (second-below k (length area.units.ids) (length area.zones.ids) below)
     (subst (λ n. 10 ^ 18 < n) (term_at area terms k are below) above)))
 
-dear_raw : (area : Area) → 10 ^ 18 < raw_cost area → is_dear area ≡ true
-unfolding is_dear
+dear_raw : (area : Area) → 10 ^ 18 < raw_cost area → costs_are_above area ≡ true
+unfolding costs_are_above
 dear_raw area above = or_left (is_above (raw_cost area)) (is_above (greatest_cost area)) (lt-ltb (10 ^ 18) (raw_cost area) above)
 
-dear_greatest : (area : Area) → 10 ^ 18 < greatest_cost area → is_dear area ≡ true
-unfolding is_dear
-dear_greatest area above = or_right (is_above (raw_cost area)) (is_above (greatest_cost area)) (lt-ltb (10 ^ 18) (greatest_cost area) above)
+dear_greatest : (area : Area) → 10 ^ 18 < greatest_cost area → costs_are_above area ≡ true
+unfolding costs_are_above
+dear_greatest area above = or_true (is_above (raw_cost area)) (is_above (greatest_cost area)) (lt-ltb (10 ^ 18) (greatest_cost area) above)
 
-not_dear : (area : Area) → raw_cost area ≤ 10 ^ 18 → greatest_cost area ≤ 10 ^ 18 → is_dear area ≡ false
-unfolding is_dear
+not_dear : (area : Area) → raw_cost area ≤ 10 ^ 18 → greatest_cost area ≤ 10 ^ 18 → costs_are_above area ≡ false
+unfolding costs_are_above
 not_dear area raw greatest = neither (is_above (raw_cost area)) (is_above (greatest_cost area)) (le-ltb (10 ^ 18) (raw_cost area) raw) (le-ltb (10 ^ 18) (greatest_cost area) greatest)
 
 greater_above : (a b limit : ℕ) → limit < max a b → (limit < a) ⊎ (limit < b)
@@ -95,7 +92,7 @@ are_terms area mult terms zones fit e1 e2 promise =
     (subst (λ m. ((costs : ℕ) → HasCosts costs area.units m zones → AreCostTerms costs area.units m zones terms)) e1 promise)) (length area.costs.ids) (has_costs area fit)
 
 -- the judgements of the costs
-pub term_above : (area : Area) (terms numbers : List ℕ) → AreTerms area terms → numbers ≡ terms → ((k : ℕ) × (k < length numbers) × (10 ^ 18 < slice_index numbers k)) → is_dear area ≡ true
+pub term_above : (area : Area) (terms numbers : List ℕ) → AreTerms area terms → numbers ≡ terms → ((k : ℕ) × (k < length numbers) × (10 ^ 18 < slice_index numbers k)) → costs_are_above area ≡ true
 term_above area terms numbers are same (k, within, above) = dear_term area terms k are (subst (λ ns. k < length ns) same within) (subst (λ ns. 10 ^ 18 < slice_index ns k) same above)
 
 record AreSums (area : Area) (raw greatest : ℕ) : Type 0 where
@@ -108,22 +105,18 @@ sums area terms narrow units zones raw greatest are same units_are zones_are raw
     record { raw_is = raw_is; greatest_sum = sum_is ∙ greatest_is area narrow units zones units_are zones_are (subst (AreTerms area) (sym same) are) }
 
 pub sum_above : (area : Area) (terms narrow : List ℕ) (units zones raw greatest : ℕ) → AreTerms area terms → narrow ≡ terms → units ≡ length area.units.ids → zones ≡ length area.zones.ids → raw ≡ sum area.units.costs
-    → greatest ≡ sum_below units (λ unit. greatest_below zones (λ zone. slice_index narrow (unit * zones + zone))) → 10 ^ 18 < max raw greatest → is_dear area ≡ true
+    → greatest ≡ sum_below units (λ unit. greatest_below zones (λ zone. slice_index narrow (unit * zones + zone))) → 10 ^ 18 < max raw greatest → costs_are_above area ≡ true
 sum_above area terms narrow units zones raw greatest are same units_are zones_are raw_is sum_is above =
     let all = sums area terms narrow units zones raw greatest are same units_are zones_are raw_is sum_is in
     elim (greater_above raw greatest (10 ^ 18) above) [ inl first ↦ dear_raw area (subst (λ n. 10 ^ 18 < n) all.raw_is first) | inr second ↦ dear_greatest area (subst (λ n. 10 ^ 18 < n) all.greatest_sum second) ]
 
 pub sums_within : (area : Area) (terms narrow items : List ℕ) (units zones raw greatest : ℕ) → AreTerms area terms → narrow ≡ terms → items ≡ narrow → units ≡ length area.units.ids → zones ≡ length area.zones.ids → raw ≡ sum area.units.costs
-    → greatest ≡ sum_below units (λ unit. greatest_below zones (λ zone. slice_index narrow (unit * zones + zone))) → max raw greatest ≤ 10 ^ 18 → (is_dear area ≡ false) × (items ≡ terms_of area)
+    → greatest ≡ sum_below units (λ unit. greatest_below zones (λ zone. slice_index narrow (unit * zones + zone))) → max raw greatest ≤ 10 ^ 18 → (costs_are_above area ≡ false) × (items ≡ terms_of area)
 sums_within area terms narrow items units zones raw greatest are same kept units_are zones_are raw_is sum_is low =
     let all = sums area terms narrow units zones raw greatest are same units_are zones_are raw_is sum_is in
     (not_dear area (subst (λ n. n ≤ 10 ^ 18) all.raw_is (omega (arith, low))) (subst (λ n. n ≤ 10 ^ 18) all.greatest_sum (omega (arith, low))), kept ∙ same ∙ terms_are area terms are)
 
 -- what isn't dear is within the limit
-second_false : (a b : Bool) → (a || b) ≡ false → b ≡ false
-second_false true b e = cc
-second_false false b e = e
-
-pub within_limit : (area : Area) → is_dear area ≡ false → greatest_cost area ≤ 10 ^ 18
-unfolding is_dear
-within_limit area e = ltb-false (10 ^ 18) (greatest_cost area) (second_false (is_above (raw_cost area)) (is_above (greatest_cost area)) e)
+pub within_limit : (area : Area) → costs_are_above area ≡ false → greatest_cost area ≤ 10 ^ 18
+unfolding costs_are_above
+within_limit area e = ltb-false (10 ^ 18) (greatest_cost area) (right_false (is_above (raw_cost area)) (is_above (greatest_cost area)) e)

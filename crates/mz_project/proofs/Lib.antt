@@ -1,7 +1,21 @@
 pub mod ReadLemmas
-mod PairLemmas
+mod AboveLemmas
+mod BelowLemmas
 mod CostLemmas
 mod AreaLemmas
-mod MultiplierLemmas
+mod TargetReadLemmas
+mod BoundaryReadLemmas
+mod RegionLemmas
+mod BoundaryCostLemmas
+mod DefaultLemmas
+mod LevelLemmas
+mod RawLemmas
+mod HolderLemmas
+mod WeightLemmas
+mod WithinLemmas
 mod PartLemmas
+mod LimitLemmas
 mod SetLemmas
+mod LengthLemmas
+mod AmountLemmas
+mod GainLemmas

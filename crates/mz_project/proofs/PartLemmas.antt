@@ -1,87 +1,41 @@
 -- The parts that the files give are a problem.
-use Rattle.std.proofs.Common.{◌≡◌, ℕ, ◌+◌, ◌*◌, ◌/◌, ◌%◌, ◌^◌, ◌<◌, ◌≤◌, Bool, true, false, cond, List, [], ◌∷◌, ◌++◌, length, get_or, take, Some, replicate, add-one, refl, sym, ap, subst, ◌∙◌, arith}
-use Rattle.std.specs.Prelude.{◌==◌, slice_index, slice_get}
-use Rattle.std.specs.List.{All}
-use Rattle.std.proofs.lemmas.List.{length-replicate}
+use Rattle.std.proofs.Common.{◌≡◌, ℕ, ◌+◌, ◌-◌, ◌*◌, ◌/◌, ◌%◌, ◌^◌, ◌<◌, ◌≤◌, false, List, [], ◌∷◌, ◌++◌, length, get_or, map, take, None, Some, add-one, refl, sym, ap, subst, ◌∙◌, arith}
+use Rattle.std.specs.Prelude.{slice_index, slice_get}
+use Rattle.std.specs.List.{All, list_any, range_with_len}
+use Rattle.std.proofs.lemmas.List.{get_or-map, length-map, map-append}
+use Rattle.std.proofs.lemmas.List.Elements.{All-weaker}
 use Rattle.std.proofs.lemmas.Option.{slice_get_within, get_or_from_slice_get}
+use Rattle.std.proofs.lemmas.Simd.{map-map}
 use Rattle.std.proofs.Math.Seq.{take-suc}
-use Rattle.std.proofs.lemmas.List.Elements.{All-replicate}
-use Rattle.std.proofs.Math.Nat.{mul-le-mul}
-use Rattle.mz_num.specs.Round.{round}
-use Rattle.mz_num.proofs.RoundLaws.{round-le}
 use Rattle.mz_params.specs.declared.params.Params.{Params}
-use Rattle.mz_model.specs.declared.parts.Parts.{Parts}
+use Rattle.mz_bounds.specs.Rates.{rate}
 use Rattle.mz_model.specs.declared.parts.Target.{Target}
 use Rattle.mz_model.specs.Boundary.{IsLength, greatest_rate}
+use Rattle.mz_model.specs.Parts.{no_target, rate_at, target_at}
 use Rattle.mz_model.specs.Places.{sum_below, greatest_below, list_below}
-use Rattle.mz_model.specs.Valid.{IsValid, IsSmall, IsInShape, IsWithinLimits, IsZoneSet}
-use Rattle.mz_model.proofs.PlaceLaws.{length-list_below, list_below-more, get_or-list_below, sum_below-mono, greatest_below-le, at-le-greatest_below}
+use Rattle.mz_model.specs.Targets.{amount_for, gain_from, gain_of}
+use Rattle.mz_model.specs.Valid.{IsAmount, IsOverallRow, IsValid, IsSmall, IsInShape, IsWithinLimits, IsZoneRow, IsZoneSet}
+use Rattle.mz_model.proofs.PlaceLaws.{length-list_below, get_or-list_below, sum_below-mono, greatest_below-le, at-le-greatest_below}
+use Rattle.mz_rows.proofs.PairLemmas.{pair-below, pair-first, pair-second}
+use Rattle.mz_targets.specs.Amounts as targets
+use Rattle.mz_targets.specs.declared.zone_targets.ZoneTarget.{ZoneTarget}
 use Rattle.mz_units.specs.ZoneSets as units
-use Rattle.mz_units.proofs.KeyedLemmas.{eqb-sym}
 use Rattle.mz_project.specs.declared.area.Area.{Area}
-use Rattle.mz_project.specs.Fits.{AreZoneSets, FitsArea}
-use Rattle.mz_project.specs.Limits.{is_dear}
-use Rattle.mz_project.specs.Parts.{default_boundary_cost, parts_of, rate_of, rates_of, term_of, terms_of}
+use Rattle.mz_project.specs.declared.region.Region.{Region}
+use Rattle.mz_project.specs.Fits.{FitsRegion}
+use Rattle.mz_project.specs.Limits.{costs_are_above, gains_are_above, greatest_gain, greatest_term, heavy_row, is_above, lengths_are_above, levels_are_above, rates_are_above, terms_are_above}
+use Rattle.mz_project.specs.Numbers.{AreCostsWithin, AreTargetsWithin}
+use Rattle.mz_project.specs.Parts.{levels_of, overall_level, overall_row, parts_of, rates_of, rows_of, term_of, terms_of, zone_row}
+use Rattle.mz_project.proofs.BelowLemmas.{left_false, right_false}
 use Rattle.mz_project.proofs.CostLemmas.{within_limit}
-use Rattle.mz_project.proofs.PairLemmas.{pair-below, pair-first, pair-second}
-
--- the record of the parts, by its lists
-pub parts-made : (params : Params) (area : Area) (allowed : List ℕ) (ids zone_ids features : List ℕ) (names : List (List ℕ)) (sets costs rates : List ℕ) (edges : List (ℕ × ℕ × ℕ)) (outer : List ℕ) (targets : List Target) (amounts : List (ℕ × ℕ × ℕ)) (fractions : List ℕ)
-    → ids ≡ area.units.ids → zone_ids ≡ area.zones.ids → features ≡ [] → names ≡ [] → sets ≡ allowed → costs ≡ terms_of area → rates ≡ rates_of params (length area.zones.ids) → edges ≡ [] → outer ≡ replicate (length area.units.ids) 0 → targets ≡ [] → amounts ≡ [] → fractions ≡ []
-    → (let made : Parts = record { unit_ids = ids; zone_ids = zone_ids; feature_ids = features; names = names; available = area.available; allowed = sets; costs = costs; rates = rates; edges = edges; outer = outer; targets = targets; amounts = amounts; fractions = fractions } in made ≡ parts_of params area allowed)
-unfolding parts_of
-parts-made params area allowed ids zone_ids features names sets costs rates edges outer targets amounts fractions e1 e2 e3 e4 e e5 e6 e7 e8 e9 e10 e11 =
-    λ k. record { unit_ids = e1 k; zone_ids = e2 k; feature_ids = e3 k; names = e4 k; available = area.available; allowed = e k; costs = e5 k; rates = e6 k; edges = e7 k; outer = e8 k; targets = e9 k; amounts = e10 k; fractions = e11 k }
+use Rattle.mz_project.proofs.LevelLemmas.{total-small}
+use Rattle.mz_project.proofs.WeightLemmas.{back-at, front-at, length-rows}
+use Rattle.mz_project.proofs.WithinLemmas.{all_within, none_found, none_passes}
 
 -- one id more
 pub ids-more : (ids list list' : List ℕ) (place id : ℕ) → list ≡ take place ids → slice_get ids place ≡ Some id → list' ≡ list ++ id ∷ [] → list' ≡ take (place + 1) ids
 ids-more ids list list' place id so_far is more =
     more ∙ ap (λ xs. xs ++ id ∷ []) so_far ∙ ap (λ x. take place ids ++ x ∷ []) (sym (get_or_from_slice_get ids place id 0 is)) ∙ sym (take-suc ids place 0 (slice_get_within ids place id is)) ∙ ap (λ n. take n ids) (sym (add-one place))
-
--- rates
-even_cost : (k l : ℕ) → default_boundary_cost k l ≡ default_boundary_cost l k
-even_cost k l = ap (λ b. cond b 0 (10 ^ 6)) (eqb-sym k l)
-
-even_rate : (params : Params) (k l : ℕ) → rate_of params k l ≡ rate_of params l k
-even_rate params k l = ap (λ c. round (c * params.blm) (10 ^ 6)) (even_cost k l)
-
-small_cost : (b : Bool) (modifier : ℕ) → cond b 0 (10 ^ 6) * modifier ≤ modifier * 10 ^ 6
-small_cost true modifier = omega arith
-small_cost false modifier = omega arith
-
--- a boundary cost of at most one, times the modifier
-pub weighed-le : (cost modifier : ℕ) → cost ≤ 1000000 → modifier ≤ 10 ^ 18 → cost * modifier ≤ 10 ^ 18 * 1000000
-weighed-le cost modifier small low =
-    let product : cost * modifier ≤ 1000000 * 10 ^ 18 = mul-le-mul small low in
-    omega (arith, product)
-
-rate-le : (params : Params) (k l : ℕ) → rate_of params k l ≤ params.blm
-rate-le params k l = round-le (default_boundary_cost k l * params.blm) (10 ^ 6) params.blm (omega arith) (small_cost (k == l) params.blm)
-
--- one rate more
-pub rates-more : (params : Params) (zones place : ℕ) (rates rates' : List ℕ) (rate : ℕ) → rates ≡ list_below place (λ p. rate_of params (p / zones) (p % zones)) → rate ≡ rate_of params (place / zones) (place % zones) → rates' ≡ rates ++ rate ∷ []
-    → rates' ≡ list_below (place + 1) (λ p. rate_of params (p / zones) (p % zones))
-rates-more params zones place rates rates' rate so_far one more =
-    more ∙ ap (λ r. rates ++ r ∷ []) one ∙ ap (λ rs. rs ++ rate_of params (place / zones) (place % zones) ∷ []) so_far ∙ sym (list_below-more place (λ p. rate_of params (p / zones) (p % zones)))
-
-rate-is : (params : Params) (zones k l : ℕ) → k < zones → l < zones → get_or (rates_of params zones) (k * zones + l) 0 ≡ rate_of params k l
-unfolding rates_of
-rate-is params zones k l below within =
-    get_or-list_below (zones * zones) (k * zones + l) (λ place. rate_of params (place / zones) (place % zones)) 0 (pair-below k zones zones l below within)
-    ∙ ap (λ a. rate_of params a ((k * zones + l) % zones)) (pair-first k zones l within)
-    ∙ ap (rate_of params k) (pair-second k zones l within)
-
-length-rates : (params : Params) (zones : ℕ) → length (rates_of params zones) ≡ zones * zones
-unfolding rates_of
-length-rates params zones = length-list_below (zones * zones) (λ place. rate_of params (place / zones) (place % zones))
-
-rates-within : (params : Params) (zones : ℕ) → params.blm ≤ 10 ^ 18 → All (λ rate. rate ≤ 10 ^ 18) (rates_of params zones)
-unfolding rates_of
-rates-within params zones modifier k d within =
-    let below : k < zones * zones = subst (λ n. k < n) (length-rates params zones) within in
-    let is = get_or-list_below (zones * zones) k (λ place. rate_of params (place / zones) (place % zones)) d below in
-    let small = rate-le params (k / zones) (k % zones) in
-    subst (λ r. r ≤ 10 ^ 18) (sym is) (omega (arith, small, modifier))
 
 -- terms
 length-terms : (area : Area) → length (terms_of area) ≡ length area.units.ids * length area.zones.ids
@@ -95,7 +49,7 @@ term-is area unit zone below within =
     ∙ ap (λ a. term_of area a ((unit * length area.zones.ids + zone) % length area.zones.ids)) (pair-first unit (length area.zones.ids) zone within)
     ∙ ap (term_of area unit) (pair-second unit (length area.zones.ids) zone within)
 
-costs-within : (area : Area) → is_dear area ≡ false → sum_below (length area.units.ids) (λ unit. greatest_below (length area.zones.ids) (λ zone. get_or (terms_of area) (unit * length area.zones.ids + zone) 0)) ≤ 10 ^ 18
+costs-within : (area : Area) → costs_are_above area ≡ false → sum_below (length area.units.ids) (λ unit. greatest_below (length area.zones.ids) (λ zone. get_or (terms_of area) (unit * length area.zones.ids + zone) 0)) ≤ 10 ^ 18
 costs-within area within =
     let all = sum_below-mono (length area.units.ids) (λ unit. greatest_below (length area.zones.ids) (λ zone. get_or (terms_of area) (unit * length area.zones.ids + zone) 0)) (λ unit. greatest_below (length area.zones.ids) (term_of area unit))
     (λ unit below. greatest_below-le (length area.zones.ids) (greatest_below (length area.zones.ids) (term_of area unit)) (λ zone. get_or (terms_of area) (unit * length area.zones.ids + zone) 0)
@@ -106,49 +60,155 @@ costs-within area within =
 set-is : (zones : ℕ) (allowed : List ℕ) (unit : ℕ) → All (units.IsZoneSet zones) allowed → unit < length allowed → IsZoneSet zones (slice_index allowed unit)
 set-is zones allowed unit sets within = record { some_zone = (sets unit 0 within).some_zone; in_range = (sets unit 0 within).in_range }
 
-zero_length : (parts : Parts) → IsLength parts 0
-zero_length parts = record { small = omega arith; term = round-le (0 * greatest_rate parts) 1000000 (10 ^ 18) (omega arith) (omega arith) }
+-- target rows
+overall-at : (region : Region) (row : ℕ) → row < length region.targets.features.ids → get_or (rows_of region) row no_target ≡ overall_row region row
+unfolding rows_of
+overall-at region row within = front-at (length region.targets.features.ids) row (overall_row region) (zone_row region) region.targets.zone_targets no_target within
 
-parts-small : (params : Params) (area : Area) (allowed : List ℕ) → FitsArea area → IsSmall (parts_of params area allowed)
-unfolding parts_of
-parts-small params area allowed fit = record { units = fit.units.few; zones = fit.zones.few; features = omega arith; rows = omega arith; edges = omega arith; amounts = omega arith }
+-- a zone target that stands for one past the last
+no_zone_target : ZoneTarget
+no_zone_target = record { zone = 0; feature = 0; value = 0; kind = 0 }
 
-parts-shape : (params : Params) (area : Area) (allowed : List ℕ) → FitsArea area → AreZoneSets (length area.units.ids) (length area.zones.ids) allowed → IsInShape (parts_of params area allowed)
+zone-at : (region : Region) (row : ℕ) → length region.targets.features.ids ≤ row → row < length (rows_of region)
+    → get_or (rows_of region) row no_target ≡ zone_row region (get_or region.targets.zone_targets (row - length region.targets.features.ids) no_zone_target)
+unfolding rows_of
+zone-at region row above within =
+    back-at (length region.targets.features.ids) row (overall_row region) (zone_row region) region.targets.zone_targets no_target no_zone_target above (let whole = length-rows region in omega (arith, above, within, whole))
+
+overall-shape : (params : Params) (region : Region) (row : ℕ) → row < length region.targets.features.ids → IsOverallRow row (target_at (parts_of params region) row)
 unfolding parts_of
-parts-shape params area allowed fit sets = record {
-  unit_ids = fit.units.distinct;
-  zone_ids = fit.zones.distinct;
-  feature_ids = λ i j d below within. absurd (omega arith);
-  names = refl;
-  available = fit.available;
-  allowed = sets.all_units;
-  zone_sets = λ unit within. set-is (length area.zones.ids) allowed unit sets.each (subst (λ n. unit < n) (sym sets.all_units) within);
-  costs = length-terms area;
-  rates = length-rates params (length area.zones.ids);
-  even_rates = λ k l below within. rate-is params (length area.zones.ids) k l below within ∙ even_rate params k l ∙ sym (rate-is params (length area.zones.ids) l k within below);
-  pairs = λ k d within. absurd (omega arith);
-  pairs_in_order = λ i j d below within. absurd (omega arith);
-  outer = length-replicate (length area.units.ids) 0;
-  enough_rows = omega arith;
-  overall_rows = λ row within. absurd (omega arith);
-  zone_rows = λ row above within. absurd (omega arith);
-  amounts = λ k d within. absurd (omega arith);
-  amounts_in_order = λ i j d below within. absurd (omega arith);
-  fractions = omega arith;
+overall-shape params region row within = subst (IsOverallRow row) (sym (overall-at region row within)) (record { own = refl; everywhere = refl })
+
+zone-shape : (params : Params) (region : Region) (row : ℕ) → FitsRegion region → length region.targets.features.ids ≤ row → row < length (rows_of region)
+    → IsZoneRow (length region.area.zones.ids) (length region.targets.features.ids) (target_at (parts_of params region) row)
+unfolding parts_of
+zone-shape params region row fit above within =
+    let here : row - length region.targets.features.ids < length region.targets.zone_targets = (let whole = length-rows region in omega (arith, above, within, whole)) in
+    let known = fit.targets.zone_targets.each (row - length region.targets.features.ids) no_zone_target here in
+    subst (IsZoneRow (length region.area.zones.ids) (length region.targets.features.ids)) (sym (zone-at region row above within)) (record { feature = known.feature_known; zone = known.zone_known })
+
+-- rates
+rates-even : (params : Params) (region : Region) (k l : ℕ) → FitsRegion region → k < length region.area.zones.ids → l < length region.area.zones.ids → rate_at (parts_of params region) k l ≡ rate_at (parts_of params region) l k
+unfolding parts_of
+rates-even params region k l fit below within =
+    let zones = length region.area.zones.ids in
+    let inside : (i j : ℕ) → i < zones → j < zones → i * zones + j < length region.boundaries.costs = λ i j p q. subst (λ n. i * zones + j < n) (sym fit.boundaries.costs.all_pairs) (pair-below i zones zones j p q) in
+    get_or-map (rate params.blm) region.boundaries.costs (k * zones + l) 0 0 (inside k l below within)
+    ∙ ap (rate params.blm) (fit.boundaries.costs.even k l below within)
+    ∙ sym (get_or-map (rate params.blm) region.boundaries.costs (l * zones + k) 0 0 (inside l k within below))
+
+-- numbers of things, and their shape
+parts-small : (params : Params) (region : Region) → FitsRegion region → IsSmall (parts_of params region)
+unfolding parts_of
+parts-small params region fit = record {
+  units = fit.area.units.few;
+  zones = fit.area.zones.few;
+  features = fit.targets.features.few;
+  rows = (let whole = length-rows region in let features = fit.targets.features.few in let zone_rows = fit.targets.zone_targets.few in omega (arith, whole, features, zone_rows));
+  edges = fit.boundaries.bounds.few;
+  amounts = fit.targets.amounts.few;
 }
 
-parts-within : (params : Params) (area : Area) (allowed : List ℕ) → params.blm ≤ 10 ^ 18 → is_dear area ≡ false → IsWithinLimits (parts_of params area allowed)
+parts-shape : (params : Params) (region : Region) → FitsRegion region → IsInShape (parts_of params region)
 unfolding parts_of
-parts-within params area allowed modifier within = record {
-  cost = costs-within area within;
-  rate = rates-within params (length area.zones.ids) modifier;
-  pairs = λ k d within. absurd (omega arith);
-  outer = All-replicate (IsLength (parts_of params area allowed)) (length area.units.ids) 0 (zero_length (parts_of params area allowed));
-  amount = λ feature within. absurd (omega arith);
-  gain = λ row within. absurd (omega arith);
-  level = λ row within. absurd (omega arith);
-  weight = λ row within. absurd (omega arith);
+parts-shape params region fit = record {
+  unit_ids = fit.area.units.distinct;
+  zone_ids = fit.area.zones.distinct;
+  feature_ids = fit.targets.features.distinct;
+  names = fit.targets.features.all_named;
+  available = fit.area.available;
+  allowed = fit.allowed.all_units;
+  zone_sets = λ unit within. set-is (length region.area.zones.ids) region.allowed unit fit.allowed.each (subst (λ n. unit < n) (sym fit.allowed.all_units) within);
+  costs = length-terms region.area;
+  rates = length-map region.boundaries.costs (rate params.blm) ∙ fit.boundaries.costs.all_pairs;
+  even_rates = λ k l below within. rates-even params region k l fit below within;
+  pairs = λ k d within. record { first = fit.boundaries.bounds.of_two k d within; second = fit.boundaries.bounds.in_range k d within };
+  pairs_in_order = fit.boundaries.bounds.in_order;
+  outer = fit.boundaries.bounds.all_units;
+  enough_rows = (let whole = length-rows region in omega (arith, whole));
+  overall_rows = λ row within. overall-shape params region row within;
+  zone_rows = λ row above within. zone-shape params region row fit above within;
+  amounts = All-weaker (targets.IsAmount (length region.area.units.ids) (length region.targets.features.ids) (5000000 * 10 ^ 18)) (IsAmount (length region.area.units.ids) (length region.targets.features.ids)) (λ row is. record { unit = is.unit; feature = is.feature; positive = is.positive }) region.targets.amounts fit.targets.amounts.each;
+  amounts_in_order = fit.targets.amounts.in_order;
+  fractions = fit.targets.fractions.all_pairs;
 }
 
-pub parts-valid : (params : Params) (area : Area) (allowed : List ℕ) → params.blm ≤ 10 ^ 18 → FitsArea area → AreZoneSets (length area.units.ids) (length area.zones.ids) allowed → is_dear area ≡ false → IsValid (parts_of params area allowed)
-parts-valid params area allowed modifier fit sets within = record { small = parts-small params area allowed fit; shape = parts-shape params area allowed fit sets; limits = parts-within params area allowed modifier within }
+-- quantities
+rates-within : (rates : List ℕ) → rates_are_above rates ≡ false → All (λ rate. rate ≤ 10 ^ 18) rates
+unfolding rates_are_above
+rates-within rates none = all_within (λ rate. rate) rates (none_passes is_above rates none)
+
+edges-within : (region : Region) → lengths_are_above region.boundaries.bounds ≡ false → All (λ (edge : ℕ × ℕ × ℕ). edge.2 ≤ 10 ^ 18) region.boundaries.bounds.edges
+unfolding lengths_are_above
+edges-within region none =
+    let bounds = region.boundaries.bounds in
+    all_within (λ (edge : ℕ × ℕ × ℕ). edge.2) bounds.edges (none_passes (λ (edge : ℕ × ℕ × ℕ). is_above edge.2) bounds.edges (left_false (list_any (λ (edge : ℕ × ℕ × ℕ). is_above edge.2) bounds.edges) (list_any is_above bounds.outer) none))
+
+outer-within : (region : Region) → lengths_are_above region.boundaries.bounds ≡ false → All (λ len. len ≤ 10 ^ 18) region.boundaries.bounds.outer
+unfolding lengths_are_above
+outer-within region none =
+    let bounds = region.boundaries.bounds in
+    all_within (λ len. len) bounds.outer (none_passes is_above bounds.outer (right_false (list_any (λ (edge : ℕ × ℕ × ℕ). is_above edge.2) bounds.edges) (list_any is_above bounds.outer) none))
+
+edge_terms-within : (rates : List ℕ) (edges : List (ℕ × ℕ × ℕ)) (outer : List ℕ) → terms_are_above rates edges outer ≡ false → All (λ (edge : ℕ × ℕ × ℕ). greatest_term rates edge.2 ≤ 10 ^ 18) edges
+unfolding terms_are_above
+edge_terms-within rates edges outer none =
+    all_within (λ (edge : ℕ × ℕ × ℕ). greatest_term rates edge.2) edges
+    (none_passes (λ (edge : ℕ × ℕ × ℕ). is_above (greatest_term rates edge.2)) edges (left_false (list_any (λ (edge : ℕ × ℕ × ℕ). is_above (greatest_term rates edge.2)) edges) (list_any (λ len. is_above (greatest_term rates len)) outer) none))
+
+outer_terms-within : (rates : List ℕ) (edges : List (ℕ × ℕ × ℕ)) (outer : List ℕ) → terms_are_above rates edges outer ≡ false → All (λ len. greatest_term rates len ≤ 10 ^ 18) outer
+unfolding terms_are_above
+outer_terms-within rates edges outer none =
+    all_within (greatest_term rates) outer
+    (none_passes (λ len. is_above (greatest_term rates len)) outer (right_false (list_any (λ (edge : ℕ × ℕ × ℕ). is_above (greatest_term rates edge.2)) edges) (list_any (λ len. is_above (greatest_term rates len)) outer) none))
+
+length-is : (params : Params) (region : Region) (len : ℕ) → len ≤ 10 ^ 18 → greatest_term (rates_of params region) len ≤ 10 ^ 18 → IsLength (parts_of params region) len
+unfolding parts_of greatest_rate
+length-is params region len small term = record { small = small; term = term }
+
+gains-within : (region : Region) → gains_are_above region ≡ false → All (λ row. greatest_gain region row ≤ 10 ^ 18) (rows_of region)
+unfolding gains_are_above
+gains-within region none = all_within (greatest_gain region) (rows_of region) (none_passes (λ row. is_above (greatest_gain region row)) (rows_of region) none)
+
+gain-within : (params : Params) (region : Region) (row : ℕ) → gains_are_above region ≡ false → row < length (rows_of region)
+    → sum_below (length region.area.units.ids) (λ unit. greatest_below (length region.area.zones.ids) (gain_of (parts_of params region) row unit)) ≤ 10 ^ 18
+unfolding parts_of gain_of gain_from amount_for
+gain-within params region row none within = gains-within region none row no_target within
+
+levels-are : (region : Region) → levels_of region.targets ≡ map (λ (row : Target). row.level) (rows_of region)
+unfolding levels_of rows_of
+levels-are region =
+    let features = length region.targets.features.ids in
+    let level_of_row : Target → ℕ = λ row. row.level in
+    sym (map-append level_of_row (list_below features (overall_row region)) (map (zone_row region) region.targets.zone_targets)
+    ∙ ap (λ (levels : List ℕ). levels ++ map level_of_row (map (zone_row region) region.targets.zone_targets)) (map-map level_of_row (overall_row region) (range_with_len 0 features))
+    ∙ ap (λ (levels : List ℕ). list_below features (overall_level region.targets) ++ levels) (map-map level_of_row (zone_row region) region.targets.zone_targets))
+
+levels-within : (region : Region) → levels_are_above region.targets ≡ false → All (λ level. level ≤ 10 ^ 18) (levels_of region.targets)
+unfolding levels_are_above
+levels-within region none = all_within (λ level. level) (levels_of region.targets) (none_passes is_above (levels_of region.targets) none)
+
+level-within : (region : Region) (row : ℕ) → levels_are_above region.targets ≡ false → row < length (rows_of region) → (get_or (rows_of region) row no_target).level ≤ 10 ^ 18
+level-within region row none within =
+    subst (λ n. n ≤ 10 ^ 18) (ap (λ levels. get_or levels row 0) (levels-are region) ∙ get_or-map (λ (r : Target). r.level) (rows_of region) row no_target 0 within)
+    (levels-within region none row 0 (subst (λ n. row < n) (sym (ap length (levels-are region) ∙ length-map (rows_of region) (λ (r : Target). r.level))) within))
+
+weight-within : (region : Region) (row : ℕ) → heavy_row region ≡ None → row < length (rows_of region) → (get_or (rows_of region) row no_target).weight ≤ 10 ^ 18
+unfolding heavy_row
+weight-within region row none within = all_within (λ (r : Target). r.weight) (rows_of region) (none_found (λ r. is_above r.weight) (rows_of region) none) row no_target within
+
+parts-within : (params : Params) (region : Region) → AreCostsWithin params region → AreTargetsWithin region → IsWithinLimits (parts_of params region)
+unfolding parts_of
+parts-within params region are rows = record {
+  cost = costs-within region.area are.costs;
+  rate = rates-within (rates_of params region) are.rates;
+  pairs = λ k d within. length-is params region (get_or region.boundaries.bounds.edges k d).2 (edges-within region are.lengths k d within) (edge_terms-within (rates_of params region) region.boundaries.bounds.edges region.boundaries.bounds.outer are.terms k d within);
+  outer = λ k d within. length-is params region (get_or region.boundaries.bounds.outer k d) (outer-within region are.lengths k d within) (outer_terms-within (rates_of params region) region.boundaries.bounds.edges region.boundaries.bounds.outer are.terms k d within);
+  amount = λ feature within. total-small region.targets feature rows.totals within;
+  gain = λ row within. gain-within params region row rows.gains within;
+  level = λ row within. level-within region row rows.levels within;
+  weight = λ row within. weight-within region row rows.weights within;
+}
+
+pub parts-valid : (params : Params) (region : Region) → FitsRegion region → AreCostsWithin params region → AreTargetsWithin region → IsValid (parts_of params region)
+parts-valid params region fit are rows = record { small = parts-small params region fit; shape = parts-shape params region fit; limits = parts-within params region are rows }

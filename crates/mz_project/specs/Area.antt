@@ -1,6 +1,5 @@
 -- The zones, the costs, the units and what the zones multiply the costs by.
-use Rattle.std.specs.Prelude.{ℕ, ◌^◌, ◌==◌, if◌then◌else◌, List, [], ◌∷◌, length, replicate, codes, Option, Some, None, Result, Ok, Err}
-use Rattle.std.specs.List.{flat_map, range_with_len}
+use Rattle.std.specs.Prelude.{ℕ, List, [], ◌∷◌, length, codes, Option, Some, None, Result, Ok, Err}
 use Rattle.mz_shelf.specs.State.{Files}
 use Rattle.mz_params.specs.declared.fault.ParamFault.TheVariants.{OutOfRange}
 use Rattle.mz_params.specs.declared.key.Key.TheVariants.{AvailableZone}
@@ -17,6 +16,7 @@ use Rattle.mz_project.specs.declared.area.Area.{Area}
 use Rattle.mz_project.specs.declared.fault.InputFault.{InputFault}
 use Rattle.mz_project.specs.declared.fault.InputFault.TheVariants.{Param}
 use Rattle.mz_project.specs.declared.fault.Which.TheVariants.{Zones, Costs, Units, ZoneCosts}
+use Rattle.mz_project.specs.Defaults.{ones_outside}
 use Rattle.mz_project.specs.Reads.{Reads, if_given, rows_read, taken, then_read}
 
 -- without a file of zones there are an available and a reserved one
@@ -44,16 +44,10 @@ costs_read params files = if_given params.costs default_costs (λ name. rows_rea
 abbrev pub units_read : Params → CostList → Files → Reads UnitList
 units_read params costs files = rows_read files params.input_dir params.units Units (unit_columns costs.names) units_of
 
--- without a file of zone costs each cost counts once outside the available zone, and not within it
-abbrev pub default_multiplier : ℕ → ℕ → ℕ
-default_multiplier available zone = if zone == available then 0 else 10 ^ 6
-
-unfoldable pub default_multipliers : ℕ → ℕ → ℕ → List ℕ
-default_multipliers zones costs available = flat_map (λ zone. replicate costs (default_multiplier available zone)) (range_with_len 0 zones)
-
+-- without a file of zone costs each cost counts once outside the available zone
 abbrev pub multipliers_read : Params → ZoneList → ℕ → CostList → Files → Reads (List ℕ)
 multipliers_read params zones available costs files =
-    if_given params.zone_costs (default_multipliers (length zones.ids) (length costs.ids) available)
+    if_given params.zone_costs (ones_outside (length zones.ids) (length costs.ids) available)
     (λ name. rows_read files params.input_dir name ZoneCosts zone_cost_columns (multipliers_of zones.ids costs.ids))
 
 -- all of these, in order

@@ -1,8 +1,15 @@
 pub mod Area
+pub mod Boundaries
+pub mod Defaults
 pub mod Fits
+pub mod Holdings
+pub mod Lengths
 pub mod Limits
+pub mod Numbers
 pub mod Parts
 pub mod Project
 pub mod ReadAs
 pub mod Reads
+pub mod Region
 pub mod Sets
+pub mod Targets

@@ -5,14 +5,12 @@ use Rattle.mz_params.specs.declared.fault.ParamFault.{ParamFault}
 use Rattle.mz_params.specs.declared.params.Params.{Params}
 use Rattle.mz_params.specs.ParamFile.{params_from}
 use Rattle.mz_model.specs.declared.parts.Parts.{Parts}
-use Rattle.mz_project.specs.declared.area.Area.{Area}
 use Rattle.mz_project.specs.declared.fault.InputFault.{InputFault}
 use Rattle.mz_project.specs.declared.fault.InputFault.TheVariants.{Param}
 use Rattle.mz_project.specs.declared.fault.Which.TheVariants.{Params as ParamFile}
-use Rattle.mz_project.specs.Area.{area_read}
 use Rattle.mz_project.specs.Limits.{limited_parts}
 use Rattle.mz_project.specs.Reads.{Reads, file_read, taken, then_read}
-use Rattle.mz_project.specs.Sets.{allowed_read}
+use Rattle.mz_project.specs.Region.{region_read}
 
 -- the fault of a parameter file is one of the input
 abbrev pub of_params : Result Params ParamFault → Result Params InputFault
@@ -24,8 +22,5 @@ unfoldable pub params_read : List ℕ → Files → Reads Params
 params_read name files = then_read (file_read files name ParamFile) (λ bytes. taken (of_params (params_from bytes)))
 
 -- the problem of these parameters: the files that they give, one after another, and then the limits
-abbrev pub read_behind_area : Params → Area → Files → Reads Parts
-read_behind_area params area files = then_read (allowed_read params area files) (λ allowed. taken (limited_parts params area allowed))
-
 unfoldable pub project_read : Params → Files → Reads Parts
-project_read params files = then_read (area_read params files) (λ area. read_behind_area params area files)
+project_read params files = then_read (region_read params files) (λ region. taken (limited_parts params region))

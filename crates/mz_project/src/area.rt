@@ -1,16 +1,17 @@
 //! The zones, the costs, the units, and what the zones multiply the costs by.
-ghost use Rattle.std.specs.Prelude.{◌≡◌, ◌<◌, ◌≤◌, ◌+◌, ◌^◌, ◌++◌, if◌then◌else◌, IfOk, OnOk, length, replicate};
+ghost use Rattle.std.specs.Prelude.{◌≡◌, ◌<◌, ◌≤◌, ◌+◌, IfOk, length};
 ghost use Rattle.std.specs.List.{All};
 ghost use Rattle.mz_units.specs.Named.{IsNamedList, costs_of, zones_of};
 ghost use Rattle.mz_units.specs.UnitRows.{IsUnitList, units_of};
 ghost use Rattle.mz_units.specs.Wanted.{cost_columns, unit_columns, zone_columns, zone_cost_columns};
 ghost use Rattle.mz_units.specs.ZoneCosts.{AreMultipliers, multipliers_of};
-ghost use Rattle.mz_project.specs.Area.{area_read, available_place, costs_read, default_costs as costs_by_default, default_multiplier, default_multipliers as multipliers_by_default, default_zones as zones_by_default, multipliers_read, units_read, zones_read};
+ghost use Rattle.mz_project.specs.Area.{area_read, available_place, costs_read, default_costs as costs_by_default, default_zones as zones_by_default, multipliers_read, units_read, zones_read};
 ghost use Rattle.mz_project.specs.Fits.{FitsArea};
 ghost use Rattle.mz_project.specs.ReadAs.{ReadAs, TakenAs};
 ghost use Rattle.mz_project.specs.Reads.{of_rows, rows_read};
 ghost use Rattle.mz_project.specs.declared.fault.Which.TheVariants as file;
 
+use crate::defaults::ones_outside;
 use crate::fault::{ReadFault, Which, param_fault, row_fault};
 use crate::file::read_table;
 use mz_num::{Items, NoMemory};
@@ -213,7 +214,7 @@ fn multipliers<S: Shelf>(
             let table = read_table(alloc, shelf, folder, name, Which::ZoneCosts, &wants)?;
             multipliers_in(alloc, &table, &zones.ids, &costs.ids)
         }
-        None => Ok(default_multipliers(alloc, zones.ids.len(), costs.ids.len(), available)?),
+        None => Ok(ones_outside(alloc, zones.ids.len(), costs.ids.len(), available)?),
     }
 }
 
@@ -233,37 +234,4 @@ fn multipliers_in(
         Ok(multipliers) => Ok(Items::new(multipliers)),
         Err(fault) => Err(row_fault(Which::ZoneCosts, fault)),
     }
-}
-
-fn default_multipliers(
-    alloc: Global,
-    zones: u32,
-    costs: u32,
-    available: u8,
-) -> Result<Items<u64>, NoMemory>
-    requires zones { zones ≤ 60 }
-    requires costs { costs ≤ 60 }
-    ensures multipliers { IfOk result (λ multipliers. multipliers ≡ multipliers_by_default zones costs available) }
-    ensures fit { IfOk result (AreMultipliers zones costs) }
-{
-    let mut multipliers = Vec::new(alloc);
-    for zone in 0..zones {
-        push_multipliers(&mut multipliers, costs, zone == u32::from(available))?;
-    }
-    Ok(Items::new(multipliers))
-}
-
-/// The multipliers of a zone: 0 in the available zone, one in another.
-fn push_multipliers(
-    multipliers: &mut Vec<u64>,
-    costs: u32,
-    is_available: bool,
-) -> Result<(), NoMemory>
-    ensures { OnOk result (multipliers.new.items ≡ multipliers.old.items ++ replicate costs (if is_available then 0 else 10 ^ 6)) }
-{
-    let multiplier = if is_available { 0 } else { 1_000_000 };
-    for _cost in 0..costs {
-        multipliers.push(multiplier)?;
-    }
-    Ok(())
 }

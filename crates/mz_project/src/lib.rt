@@ -3,13 +3,18 @@
 #![tactic(auto)]
 
 mod area;
+mod boundaries;
+mod defaults;
 mod fault;
 mod file;
 mod limits;
+mod numbers;
 mod parameters;
 mod parts;
 mod project;
+mod region;
 mod sets;
+mod targets;
 #[cfg(test)]
 mod tests;
 

@@ -1,88 +1,20 @@
 //! The quantities of a project that have a limit.
-ghost use Rattle.std.specs.Prelude.{ℕ, ◌≡◌, ◌<◌, ◌≤◌, ◌+◌, ◌*◌, ◌^◌, MatchOption, IfOk, length, slice_index};
-ghost use Rattle.std.specs.List.{All, sum};
-ghost use Rattle.mz_model.specs.Places.{sum_below, greatest_below};
-ghost use Rattle.mz_project.specs.Fits.{FitsArea};
-ghost use Rattle.mz_project.specs.Limits.{CostsJudged};
+mod amounts;
+mod costs;
+mod gains;
+mod lengths;
+mod levels;
+mod narrow;
+mod rates;
+mod weights;
 
-use crate::area::Area;
-use crate::fault::{InputFault, ReadFault, What};
-use mz_num::{Items, NoMemory};
-use mz_units::cost_terms;
-use std::alloc::Global;
+pub(crate) use amounts::{Holdings, limited_amounts};
+pub(crate) use costs::limited_costs;
+pub(crate) use gains::limited_gains;
+pub(crate) use lengths::{Lengths, limited_lengths, limited_terms};
+pub(crate) use levels::limited_levels;
+pub(crate) use rates::limited_rates;
+pub(crate) use weights::weighed_rows;
 
 /// The greatest value of a quantity.
 const LIMIT: u64 = 1_000_000_000_000_000_000;
-
-/// The cost terms of all units in all zones, unless all costs, or what the units cost in their dearest
-/// zones, are above the limit.
-pub(crate) fn limited_costs(alloc: Global, area: &Area) -> Result<Items<u64>, ReadFault>
-    requires { FitsArea area.now }
-    ensures { CostsJudged area.now result }
-{
-    let zones = area.zones.ids.len() as u8;
-    let multipliers = area.multipliers.as_slice();
-    let terms = cost_terms(alloc, &area.units, multipliers, zones)?;
-    let Some(terms) = narrowed(alloc, &terms)? else {
-        return Err(ReadFault::Input(InputFault::Sum(What::Cost)));
-    };
-    let raw = total(area.units.costs.as_slice());
-    let greatest = greatest_cost(&terms, area.units.ids.len(), zones);
-    if raw.max(greatest) > u128::from(LIMIT) {
-        return Err(ReadFault::Input(InputFault::Sum(What::Cost)));
-    }
-    Ok(Items::new(terms))
-}
-
-/// The numbers in 64 bits; none where one of them is above the limit.
-fn narrowed(alloc: Global, numbers: &[u128]) -> Result<Option<Vec<u64>>, NoMemory>
-    ensures { IfOk result (λ narrow. MatchOption narrow
-        ((k : ℕ) × (k < length numbers.now) × (10 ^ 18 < slice_index numbers.now k))
-        (λ list. (list.items ≡ numbers.now) × All (λ number. number ≤ 10 ^ 18) list.items)) }
-{
-    let mut narrow = Vec::new(alloc);
-    for number in numbers {
-        if *number > u128::from(LIMIT) {
-            return Ok(None);
-        }
-        narrow.push(*number as u64)?;
-    }
-    Ok(Some(narrow))
-}
-
-/// The sum of numbers.
-fn total(numbers: &[u64]) -> u128
-    requires { length numbers.now ≤ 10 ^ 9 }
-    ensures { result ≡ sum numbers.now }
-{
-    let mut total = 0u128;
-    for number in numbers {
-        total += u128::from(*number);
-    }
-    total
-}
-
-/// What the units cost in their dearest zones.
-fn greatest_cost(terms: &[u64], units: u32, zones: u8) -> u128
-    requires { length terms.now ≡ units * zones }
-    ensures { result ≡ sum_below units (λ unit. greatest_below zones (λ zone. slice_index terms.now (unit * zones + zone))) }
-{
-    let mut total = 0u128;
-    for unit in 0..units {
-        total += u128::from(greatest_term(terms, unit, zones));
-    }
-    total
-}
-
-/// What a unit costs in its dearest zone.
-fn greatest_term(terms: &[u64], unit: u32, zones: u8) -> u64
-    requires { unit * zones + zones ≤ length terms.now }
-    ensures { result ≡ greatest_below zones (λ zone. slice_index terms.now (unit * zones + zone)) }
-{
-    let first = unit as usize * zones as usize;
-    let mut greatest = 0;
-    for zone in 0..zones {
-        greatest = greatest.max(terms[first + zone as usize]);
-    }
-    greatest
-}

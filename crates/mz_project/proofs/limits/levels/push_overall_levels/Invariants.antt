@@ -1,0 +1,7 @@
+use Rattle.std.proofs.Common.{◌≡◌, ◌++◌}
+use Rattle.mz_model.specs.Places.{list_below}
+use Rattle.mz_project.specs.Parts.{overall_level}
+use Rattle.mz_project.proofs.limits.levels.push_overall_levels.Given as goal
+
+abbrev pub invariant-loop-feature : goal.invariant-loop-feature
+invariant-loop-feature l = l.levels.items ≡ l.initial.levels.items ++ list_below l.feature (overall_level l.region.targets)

@@ -1,0 +1,13 @@
+-- The amounts of all features, and those of each.
+use Rattle.std.specs.Prelude.{length}
+use Rattle.mz_model.specs.Amounts.{holders_of, total_of}
+use Rattle.mz_model.specs.Places.{list_below}
+use Rattle.mz_project.specs.declared.limits.amounts.Holdings.{Holdings}
+use Rattle.mz_project.specs.declared.targets.Targets.{Targets}
+
+abbrev pub holdings_of : Targets → Holdings
+holdings_of targets = record {
+  amounts = targets.amounts;
+  holders = list_below (length targets.features.ids) (holders_of targets.amounts);
+  totals = list_below (length targets.features.ids) (total_of targets.amounts);
+}

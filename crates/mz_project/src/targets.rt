@@ -1,0 +1,229 @@
+//! What is asked of a plan: the features, what of them each unit has, and the zone targets.
+ghost use Rattle.std.specs.Prelude.{◌≡◌, ◌≤◌, IfOk, length};
+ghost use Rattle.std.specs.List.{All};
+ghost use Rattle.mz_targets.specs.Amounts.{AreAmounts, amounts_of};
+ghost use Rattle.mz_targets.specs.Contribs.{AreFractions, fractions_of};
+ghost use Rattle.mz_targets.specs.Features.{IsFeatureList, features_of};
+ghost use Rattle.mz_targets.specs.Wanted.{amount_columns, contrib_columns, feature_columns, zone_target_columns};
+ghost use Rattle.mz_targets.specs.ZoneTargets.{AreZoneTargets, zone_targets_of};
+ghost use Rattle.mz_project.specs.Fits.{FitsArea, FitsTargets};
+ghost use Rattle.mz_project.specs.ReadAs.{ReadAs, TakenAs};
+ghost use Rattle.mz_project.specs.Reads.{of_rows};
+ghost use Rattle.mz_project.specs.Targets.{amounts_read, features_read, fractions_read, no_features as none_of_features, targets_read, zone_targets_read};
+ghost use Rattle.mz_project.specs.declared.fault.Which.TheVariants as file;
+
+use crate::area::Area;
+use crate::defaults::ones_outside;
+use crate::fault::{ReadFault, Which, row_fault};
+use crate::file::read_table;
+use mz_num::{Items, NoMemory};
+use mz_params::Params;
+use mz_shelf::Shelf;
+use mz_tables::{Ids, Table};
+use mz_targets::{
+    FeatureList, ZoneTarget, read_amounts, read_contribs, read_features, read_zone_targets,
+    wants_amounts, wants_contribs, wants_features, wants_zone_targets,
+};
+use std::alloc::Global;
+
+/// What the files of features, amounts, contributions and zone targets give.
+#[derive(Drop)]
+pub(crate) struct Targets {
+    pub(crate) features: FeatureList,
+    /// Unit, feature and sum of amounts, by place, in order.
+    pub(crate) amounts: Items<(u32, u32, u128)>,
+    /// The part of a feature's amounts that counts in a zone, in millionths, at `zone * features + feature`.
+    pub(crate) fractions: Items<u64>,
+    pub(crate) zone_targets: Items<ZoneTarget>,
+}
+
+/// Reads the files of features, amounts, contributions and zone targets, in this order, as far as they
+/// are given.
+#[tactic(auto, unfolding(crate::specs::Targets::targets_read))]
+pub(crate) fn read_targets<S: Shelf>(
+    alloc: Global,
+    shelf: &mut S,
+    params: &Params,
+    area: &Area,
+) -> Result<Targets, ReadFault>
+    requires { FitsArea area.now }
+    ensures read { ReadAs (targets_read params.now area.now) (S.state shelf.old) (S.state shelf.new) result }
+    ensures fit { IfOk result (FitsTargets area.now) }
+{
+    let features = features(alloc, shelf, params)?;
+    let amounts = amounts(alloc, shelf, params, area, &features)?;
+    let fractions = fractions(alloc, shelf, params, area, &features)?;
+    let zone_targets = zone_targets(alloc, shelf, params, area, &features)?;
+    Ok(Targets {
+        features,
+        amounts,
+        fractions,
+        zone_targets,
+    })
+}
+
+/// The features of the file; none without a file.
+fn features<S: Shelf>(
+    alloc: Global,
+    shelf: &mut S,
+    params: &Params,
+) -> Result<FeatureList, ReadFault>
+    ensures read { ReadAs (features_read params.now) (S.state shelf.old) (S.state shelf.new) result }
+    ensures fit { IfOk result IsFeatureList }
+{
+    match &params.features {
+        Some(name) => {
+            let wants = wants_features(alloc)?;
+            let folder = params.input_dir.as_str();
+            let table = read_table(alloc, shelf, folder, name.as_str(), Which::Features, &wants)?;
+            features_in(alloc, &table)
+        }
+        None => Ok(no_features(alloc)?),
+    }
+}
+
+fn features_in(alloc: Global, table: &Table) -> Result<FeatureList, ReadFault>
+    requires { All (λ row. length row ≡ 9) table.now }
+    ensures taken { TakenAs (of_rows file.Features (features_of table.now)) result }
+    ensures fit { IfOk result IsFeatureList }
+{
+    match read_features(alloc, table) {
+        Ok(features) => Ok(features),
+        Err(fault) => Err(row_fault(Which::Features, fault)),
+    }
+}
+
+fn no_features(alloc: Global) -> Result<FeatureList, NoMemory>
+    ensures none { IfOk result (λ features. features ≡ none_of_features) }
+    ensures fit { IfOk result IsFeatureList }
+{
+    Ok(FeatureList {
+        ids: Ids::new(alloc)?,
+        names: Items::new(Vec::new(alloc)),
+        rows: Items::new(Vec::new(alloc)),
+    })
+}
+
+/// The amounts of the file; none without a file.
+fn amounts<S: Shelf>(
+    alloc: Global,
+    shelf: &mut S,
+    params: &Params,
+    area: &Area,
+    features: &FeatureList,
+) -> Result<Items<(u32, u32, u128)>, ReadFault>
+    ensures read { ReadAs (amounts_read params.now area.now features.now) (S.state shelf.old) (S.state shelf.new) result }
+    ensures fit { IfOk result (AreAmounts (length area.now.units.ids) (length features.now.ids)) }
+{
+    match &params.amounts {
+        Some(name) => {
+            let wants = wants_amounts(alloc)?;
+            let folder = params.input_dir.as_str();
+            let table = read_table(alloc, shelf, folder, name.as_str(), Which::Amounts, &wants)?;
+            amounts_in(alloc, &table, &area.units.ids, &features.ids)
+        }
+        None => Ok(Items::new(Vec::new(alloc))),
+    }
+}
+
+fn amounts_in(
+    alloc: Global,
+    table: &Table,
+    units: &Ids,
+    features: &Ids,
+) -> Result<Items<(u32, u32, u128)>, ReadFault>
+    requires { All (λ row. length row ≡ 3) table.now }
+    ensures taken { TakenAs (of_rows file.Amounts (amounts_of units.now features.now table.now)) result }
+    ensures fit { IfOk result (AreAmounts (length units.now) (length features.now)) }
+{
+    match read_amounts(alloc, table, units, features) {
+        Ok(amounts) => Ok(Items::new(amounts)),
+        Err(fault) => Err(row_fault(Which::Amounts, fault)),
+    }
+}
+
+/// The fractions of the file; without a file an amount counts once outside the available zone.
+fn fractions<S: Shelf>(
+    alloc: Global,
+    shelf: &mut S,
+    params: &Params,
+    area: &Area,
+    features: &FeatureList,
+) -> Result<Items<u64>, ReadFault>
+    requires { length area.now.zones.ids ≤ 60 }
+    ensures read { ReadAs (fractions_read params.now area.now features.now) (S.state shelf.old) (S.state shelf.new) result }
+    ensures fit { IfOk result (AreFractions (length area.now.zones.ids) (length features.now.ids)) }
+{
+    match &params.contribs {
+        Some(name) => {
+            let wants = wants_contribs(alloc)?;
+            let folder = params.input_dir.as_str();
+            let table = read_table(alloc, shelf, folder, name.as_str(), Which::Contribs, &wants)?;
+            fractions_in(alloc, &table, &area.zones.ids, &features.ids)
+        }
+        None => Ok(ones_outside(
+            alloc,
+            area.zones.ids.len(),
+            features.ids.len(),
+            area.available,
+        )?),
+    }
+}
+
+fn fractions_in(
+    alloc: Global,
+    table: &Table,
+    zones: &Ids,
+    features: &Ids,
+) -> Result<Items<u64>, ReadFault>
+    requires zones { length zones.now ≤ 60 }
+    requires wide { All (λ row. length row ≡ 3) table.now }
+    ensures taken { TakenAs (of_rows file.Contribs (fractions_of zones.now features.now table.now)) result }
+    ensures fit { IfOk result (AreFractions (length zones.now) (length features.now)) }
+{
+    match read_contribs(alloc, table, zones, features) {
+        Ok(fractions) => Ok(Items::new(fractions)),
+        Err(fault) => Err(row_fault(Which::Contribs, fault)),
+    }
+}
+
+/// The zone targets of the file; none without a file.
+fn zone_targets<S: Shelf>(
+    alloc: Global,
+    shelf: &mut S,
+    params: &Params,
+    area: &Area,
+    features: &FeatureList,
+) -> Result<Items<ZoneTarget>, ReadFault>
+    requires { length area.now.zones.ids ≤ 60 }
+    ensures read { ReadAs (zone_targets_read params.now area.now features.now) (S.state shelf.old) (S.state shelf.new) result }
+    ensures fit { IfOk result (AreZoneTargets (length area.now.zones.ids) (length features.now.ids)) }
+{
+    match &params.zone_targets {
+        Some(name) => {
+            let wants = wants_zone_targets(alloc)?;
+            let folder = params.input_dir.as_str();
+            let name = name.as_str();
+            let table = read_table(alloc, shelf, folder, name, Which::ZoneTargets, &wants)?;
+            zone_targets_in(alloc, &table, &area.zones.ids, &features.ids)
+        }
+        None => Ok(Items::new(Vec::new(alloc))),
+    }
+}
+
+fn zone_targets_in(
+    alloc: Global,
+    table: &Table,
+    zones: &Ids,
+    features: &Ids,
+) -> Result<Items<ZoneTarget>, ReadFault>
+    requires zones { length zones.now ≤ 60 }
+    requires wide { All (λ row. length row ≡ 4) table.now }
+    ensures taken { TakenAs (of_rows file.ZoneTargets (zone_targets_of zones.now features.now table.now)) result }
+    ensures fit { IfOk result (AreZoneTargets (length zones.now) (length features.now)) }
+{
+    match read_zone_targets(alloc, table, zones, features) {
+        Ok(targets) => Ok(Items::new(targets)),
+        Err(fault) => Err(row_fault(Which::ZoneTargets, fault)),
+    }
+}
