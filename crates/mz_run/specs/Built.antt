@@ -1,18 +1,12 @@
 -- What the program does today, and the keys that ask for more.
-use Rattle.std.specs.Prelude.{◌≡◌, ◌≤◌, Bool, not, ◌==◌, nat_lt, List, [], ◌∷◌, Option, is_some, is_none}
+use Rattle.std.specs.Prelude.{◌≡◌, ◌≤◌, Bool, not, ◌==◌, nat_lt, List, [], ◌∷◌, Option, is_none}
 use Rattle.std.specs.List.{find}
 use Rattle.std.specs.Option.{option_map}
 use Rattle.mz_params.specs.declared.key.Key.{Key}
-use Rattle.mz_params.specs.declared.key.Key.TheVariants.{FeatName, PuVsFeatName, BoundName, ZoneBoundCostName, ZoneContribName, ZoneTargetName, Prop, NumReps, StartTemp, CoolFac, NumTemp, RunMode, SaveRun, SaveSummary, SaveTargMet, SaveSumSoln, SaveTurns}
+use Rattle.mz_params.specs.declared.key.Key.TheVariants.{Prop, NumReps, StartTemp, CoolFac, NumTemp, RunMode, SaveRun, SaveSummary, SaveTargMet, SaveSumSoln, SaveTurns}
 use Rattle.mz_params.specs.declared.params.Params.{Params}
 
--- whether a key asks for what isn't built yet, in the order of keys: the files of features and boundaries
-abbrev pub file_tests : Params → List (Bool × Key)
-file_tests p =
-    (is_some p.features, FeatName) ∷ (is_some p.amounts, PuVsFeatName) ∷ (is_some p.bounds, BoundName) ∷ (is_some p.zone_bounds, ZoneBoundCostName)
-    ∷ (is_some p.contribs, ZoneContribName) ∷ (is_some p.zone_targets, ZoneTargetName) ∷ []
-
--- drawn starts, several runs, found and falling temperatures, improvement
+-- whether a key asks for what isn't built yet, in the order of keys: drawn starts, several runs, found and falling temperatures, improvement
 abbrev pub search_tests : Params → List (Bool × Key)
 search_tests p =
     (nat_lt 0 p.prop, Prop) ∷ (nat_lt 1 p.reps, NumReps) ∷ (is_none p.start, StartTemp) ∷ (not (p.cool == 1000000), CoolFac)

@@ -13,7 +13,7 @@ use Rattle.mz_project.specs.declared.fault.ReadFault.TheVariants as fault
 use Rattle.mz_project.specs.Project.{params_read, project_read}
 use Rattle.mz_project.specs.ReadAs.{IsMissing, IsRefused, IsUnread, OnlyRead}
 use Rattle.mz_project.specs.Reads.{Reads, taken, then_read}
-use Rattle.mz_run.specs.Built.{file_tests, search_tests, output_tests, first_key}
+use Rattle.mz_run.specs.Built.{search_tests, output_tests, first_key}
 use Rattle.mz_run.specs.declared.status.Status.{Status}
 use Rattle.mz_run.specs.declared.status.Status.TheVariants.{Input, ShelfFault, Absent, NoMemory}
 
@@ -27,7 +27,7 @@ project_of params parts = record { params = params; parts = parts }
 
 -- the first key, in the order of keys, that asks for what isn't built yet
 unfoldable pub unbuilt_key : Params → Option Key
-unbuilt_key params = option_or (first_key (file_tests params)) (option_or (first_key (search_tests params)) (first_key (output_tests params)))
+unbuilt_key params = option_or (first_key (search_tests params)) (first_key (output_tests params))
 
 -- the parameters, unless a key asks for what isn't built
 abbrev pub unless_unbuilt : Option Key → Params → Result Params InputFault

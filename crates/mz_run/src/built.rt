@@ -1,7 +1,7 @@
 //! The keys that ask for what the program doesn't do yet.
 ghost use Rattle.std.specs.Prelude.{◌≡◌, None};
 ghost use Rattle.mz_params.specs.ParamFile.{IsAccepted};
-ghost use Rattle.mz_run.specs.Built.{IsBuilt, file_tests, first_key, output_tests, search_tests};
+ghost use Rattle.mz_run.specs.Built.{IsBuilt, first_key, output_tests, search_tests};
 ghost use Rattle.mz_run.specs.Project.{unbuilt_key as unbuilt_key_of};
 
 use mz_num::Mic6;
@@ -13,7 +13,7 @@ pub(crate) fn unbuilt_key(params: &Params) -> Option<Key>
     ensures key { result ≡ unbuilt_key_of params.now }
     ensures built { result ≡ None → IsAccepted params.now → IsBuilt params.now }
 {
-    file_key(params).or(search_key(params).or(output_key(params)))
+    search_key(params).or(output_key(params))
 }
 
 /// The key of the first test that holds.
@@ -24,19 +24,6 @@ fn first(tests: &[(bool, Key)]) -> Option<Key>
         Some(test) => Some(test.1),
         None => None,
     }
-}
-
-fn file_key(params: &Params) -> Option<Key>
-    ensures { result ≡ first_key (file_tests params.now) }
-{
-    first(&[
-        (params.features.is_some(), Key::FeatName),
-        (params.amounts.is_some(), Key::PuVsFeatName),
-        (params.bounds.is_some(), Key::BoundName),
-        (params.zone_bounds.is_some(), Key::ZoneBoundCostName),
-        (params.contribs.is_some(), Key::ZoneContribName),
-        (params.zone_targets.is_some(), Key::ZoneTargetName),
-    ])
 }
 
 fn search_key(params: &Params) -> Option<Key>

@@ -1,10 +1,10 @@
 //! The plain project of three units, run whole over shelves in memory.
 mod input;
+mod targets;
+mod texts;
 
-use crate::{Finished, InputFault, Status, What, Which, code, fault_text, marzone, prepare};
-use mz_num::NumFault;
+use crate::{Finished, InputFault, Status, code, marzone, prepare};
 use mz_shelf::{MemShelf, SafeShelf, Shelf};
-use mz_tables::RowFault;
 use std::alloc::{AllocError, Global};
 use std::process::Abort;
 use std::test::Fail;
@@ -254,76 +254,5 @@ fn a_project_is_prepared_in_silence(rt: HostRuntime) -> Result<(), Fail> {
     assert_eq!(rt; seed, 7);
     assert_eq!(rt; workers, 1);
     assert!(rt; shelf.said().is_empty());
-    Ok(())
-}
-
-/// Whether the input's fault has this text.
-fn is_text(alloc: Global, fault: InputFault, text: &str) -> Result<bool, Fail> {
-    let found = fault_text(alloc, &Status::Input(fault))?;
-    Ok(found.as_slice() == text.as_bytes())
-}
-
-#[test]
-fn faults_of_rows_have_their_texts(rt: HostRuntime) -> Result<(), Fail> {
-    let table = [
-        (
-            Which::Zones,
-            RowFault::TooMany(62),
-            "zones: line 62 too many",
-        ),
-        (
-            Which::ZoneCosts,
-            RowFault::BadNumber(2, 2, NumFault::NotANumber),
-            "zonecost: line 2 bad number in multiplier: not a number",
-        ),
-        (
-            Which::Units,
-            RowFault::BadNumber(3, 2, NumFault::TooLarge),
-            "units: line 3 bad number in cost 2: too large",
-        ),
-        (
-            Which::Features,
-            RowFault::LeftOut(2, 6),
-            "features: line 2 left out sepnum",
-        ),
-        (
-            Which::ZoneSets,
-            RowFault::Unknown(2, 0),
-            "puzone: line 2 unknown puid",
-        ),
-        (
-            Which::Costs,
-            RowFault::Repeated(3),
-            "costs: line 3 repeated",
-        ),
-        (
-            Which::Locks,
-            RowFault::BadNumber(2, 9, NumFault::Empty),
-            "pulock: line 2 bad number in : empty",
-        ),
-    ];
-    for (which, fault, text) in table {
-        assert!(rt;
-            is_text(rt.alloc(), InputFault::Row(which, fault), text)?,
-            "{text}"
-        );
-    }
-    Ok(())
-}
-
-#[test]
-fn limits_and_statuses_have_their_texts(rt: HostRuntime) -> Result<(), Fail> {
-    let alloc = rt.alloc();
-    assert!(rt;
-        is_text(
-            alloc,
-            InputFault::TooLong(Which::ZoneBounds),
-            "zoneboundcost: too long"
-        )?
-    );
-    assert!(rt; is_text(alloc, InputFault::Sum(What::Cost), "limit: cost")?);
-    assert!(rt; is_text(alloc, InputFault::Weight(7), "limit: weight of feature 7")?);
-    let nothing = fault_text(alloc, &Status::Done)?;
-    assert!(rt; nothing.is_empty());
     Ok(())
 }

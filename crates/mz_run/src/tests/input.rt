@@ -51,8 +51,8 @@ fn a_further_line_is_refused(rt: HostRuntime) -> Result<(), Fail> {
             b"refused: input: PROP left out\n".as_slice(),
         ),
         (
-            "ZONETARGETNAME a\nZONEBOUNDCOSTNAME b",
-            b"refused: input: ZONEBOUNDCOSTNAME left out\n".as_slice(),
+            "SAVERUN 3\nNUMREPS 2",
+            b"refused: input: NUMREPS left out\n".as_slice(),
         ),
     ];
     for (line, said) in table {
