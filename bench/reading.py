@@ -4,9 +4,11 @@
     bench/reading.py
 
 It makes projects of 2,000, 20,000 and 100,000 planning units (three zones, two costs, zone costs, zone
-sets, locks), and unit files of 5,000,000 rows, short and long ones, whose tables are read whole before the
-100,001st row is refused. It runs the program that `rt ci` left at crates/marzone/out/marzone on each, in a folder of its
-own, and `wc -l` over the same files. A figure is the least of three runs.
+sets, locks, 20 features with amounts in a quarter of the pairs, contributions, a zone target, the
+boundaries of a grid, zone boundary costs), one with 5,000,000 rows of amounts, and unit files of 5,000,000
+rows, short and long ones, whose tables are read whole before the 100,001st row is refused. It runs the
+program that `rt ci` left at crates/marzone/out/marzone on each, in a folder of its own, and `wc -l` over
+the same files. A figure is the least of three runs.
 """
 
 import os
@@ -25,8 +27,15 @@ INPUT = """PUNAME pu.dat
 ZONESNAME zones.dat
 COSTSNAME costs.dat
 ZONECOSTNAME zonecost.dat
+FEATNAME feat.dat
+PUVSFEATNAME amounts.dat
+ZONECONTRIBNAME contrib.dat
+ZONETARGETNAME ztarget.dat
 PUZONENAME puzone.dat
 PULOCKNAME pulock.dat
+BOUNDNAME bound.dat
+ZONEBOUNDCOSTNAME zonebound.dat
+BLM 0.5
 RANDSEED 1
 NUMITNS 0
 STARTTEMP 0
@@ -34,21 +43,49 @@ RUNMODE 6
 """
 
 
-def project(folder, units):
-    """Writes a project of so many units, and gives the names of its files."""
+def grid(units, columns):
+    """The boundaries of units in rows of so many columns, each of length 1."""
+    for unit in range(1, units + 1):
+        if unit % columns != 0:
+            yield f"{unit},{unit + 1},1"
+        if unit + columns <= units:
+            yield f"{unit},{unit + columns},1"
+
+
+def project(folder, units, features, part):
+    """Writes a project of so many units and features, with amounts in one of `part` pairs, and gives the
+    names of its files."""
     rng = random.Random(units)
     texts = {
         "input.dat": INPUT,
         "zones.dat": "zoneid,zonename\n1,available\n2,partial\n3,full\n",
         "costs.dat": "costid,costname\n1,land\n2,care\n",
         "zonecost.dat": "zoneid,costid,multiplier\n2,1,0.5\n3,1,1\n3,2,1\n",
+        "zonebound.dat": "zoneid1,zoneid2,cost\n1,2,1\n1,3,1\n2,3,0.5\n",
+        "ztarget.dat": "zoneid,featureid,target,targettype\n3,1,0.1,1\n",
     }
-    rows = [f"{unit},{rng.randint(1, 10000) / 100},{rng.randint(0, 500) / 100}" for unit in range(1, units + 1)]
-    texts["pu.dat"] = "id,land,care\n" + "\n".join(rows) + "\n"
-    sets = [f"{unit},{zone}" for unit in range(1, units + 1, 20) for zone in (1, 2)]
-    texts["puzone.dat"] = "puid,zoneid\n" + "\n".join(sets) + "\n"
-    locks = [f"{unit},3" for unit in range(2, units + 1, 20)]
-    texts["pulock.dat"] = "puid,zoneid\n" + "\n".join(locks) + "\n"
+    rows = {
+        "pu.dat": ["id,land,care"],
+        "puzone.dat": ["puid,zoneid"],
+        "pulock.dat": ["puid,zoneid"],
+        "feat.dat": ["id,prop,spf,name"],
+        "amounts.dat": ["featureid,puid,amount"],
+        "contrib.dat": ["zoneid,featureid,fraction"],
+        "bound.dat": ["id1,id2,boundary", *grid(units, 50)],
+    }
+    rows["pu.dat"] += [f"{unit},{rng.randint(1, 10000) / 100},{rng.randint(0, 500) / 100}" for unit in range(1, units + 1)]
+    rows["puzone.dat"] += [f"{unit},{zone}" for unit in range(1, units + 1, 20) for zone in (1, 2)]
+    rows["pulock.dat"] += [f"{unit},3" for unit in range(2, units + 1, 20)]
+    rows["feat.dat"] += [f"{feature},0.3,1,f{feature}" for feature in range(1, features + 1)]
+    rows["contrib.dat"] += [f"{zone},{feature},{part_of}" for feature in range(1, features + 1) for zone, part_of in ((2, 0.5), (3, 1))]
+    rows["amounts.dat"] += [
+        f"{feature},{unit},{rng.randint(1, 10)}"
+        for unit in range(1, units + 1)
+        for feature in range(1, features + 1)
+        if part == 1 or rng.randrange(part) == 0
+    ]
+    for name, lines in rows.items():
+        texts[name] = "\n".join(lines) + "\n"
     for name, text in texts.items():
         (folder / name).write_text(text)
     return sorted(texts)
@@ -86,20 +123,25 @@ def measured(command, folder):
 def line(title, folder, names):
     size = sum((folder / name).stat().st_size for name in names) / 2**20
     seconds, memory = measured([str(PROGRAM), "input.dat", "1"], folder)
-    plain, _ = measured([shutil.which("wc"), "-l", *names], folder)
-    print(f"| {title} | {size:.1f} MiB | {seconds:.3f} s | {memory:.0f} MiB | {plain:.3f} s |", flush=True)
+    plain, plain_memory = measured([shutil.which("wc"), "-l", *names], folder)
+    print(f"| {title} | {size:.1f} MiB | {seconds:.3f} s | {memory:.0f} MiB | {plain:.3f} s | {plain_memory:.0f} MiB |", flush=True)
 
 
 def main():
     if not PROGRAM.exists():
         print("skipped: run `rt ci` first, it leaves the program at", PROGRAM.relative_to(TOP))
         return 0
-    print("| Project | Files | Read | Peak memory | Plain pass |\n|---|---|---|---|---|")
+    print("| Project | Files | Read | Peak memory | Plain pass | Its memory |\n|---|---|---|---|---|---|")
     with tempfile.TemporaryDirectory() as name:
-        for units in (2_000, 20_000, 100_000):
-            folder = pathlib.Path(name) / str(units)
+        for title, units, features, part in (
+            ("2000 units", 2_000, 20, 4),
+            ("20000 units", 20_000, 20, 4),
+            ("100000 units", 100_000, 20, 4),
+            ("5000000 amounts", 100_000, 50, 1),
+        ):
+            folder = pathlib.Path(name) / title.replace(" ", "_")
             folder.mkdir()
-            line(f"{units} units", folder, project(folder, units))
+            line(title, folder, project(folder, units, features, part))
         for title, note in (("5000000 rows", ""), ("5000000 long rows", "n" * 38)):
             folder = pathlib.Path(name) / title.replace(" ", "_")
             folder.mkdir()
