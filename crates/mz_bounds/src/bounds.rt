@@ -26,7 +26,8 @@ pub struct Bounds {
 
 /// Reads the boundaries of a table that has the columns of `wants_bounds`, or the first fault of its
 /// rows: a row past the 1,000,000th, an id or a length that is no number, an id that isn't known. The
-/// rows of a pair, in either order, are added.
+/// rows of a pair, in either order, are added, and lengths are in ten-thousandths.
+/// The file is that of the manual of Marxan with Zones 1.0.1, in this project's profile.
 pub fn read_bounds(alloc: Global, table: &Table, units: &Ids) -> Result<Bounds, RowFault>
     requires { All (λ row. length row ≡ 3) table.now }
     ensures answer { Answers result (bounds_of units.now table.now) }

@@ -11,7 +11,7 @@ use std::alloc::Global;
 const ONE: u128 = 1_000_000;
 
 /// The rate of each zone boundary cost, in millionths: the cost times the boundary length modifier
-/// (BLM), rounded half up. Where costs are the same in both orders of two zones, so are the rates.
+/// (BLM) of Watts et al. 2009, rounded half up, as this project's profile rounds. Where costs are the same in both orders of two zones, so are the rates.
 pub fn rates(alloc: Global, zbc: &[u64], blm: Mic6) -> Result<Vec<u128>, NoMemory>
     requires { All (λ cost. cost ≤ 10 ^ 18) zbc.now }
     ensures each { IfOk result (λ rates. rates.items ≡ map (rate blm) zbc.now) }

@@ -7,6 +7,7 @@ use mz_tables::Wants;
 use std::alloc::Global;
 
 /// `id1`, `id2`, `boundary`.
+/// The columns are those of the manual of Marxan with Zones 1.0.1, in this project's profile.
 pub fn wants_bounds(alloc: Global) -> Result<Wants, NoMemory>
     ensures { IfOk result (λ wants. wants ≡ bound_columns) }
 {
@@ -18,6 +19,7 @@ pub fn wants_bounds(alloc: Global) -> Result<Wants, NoMemory>
 }
 
 /// `zoneid1`, `zoneid2`, `cost`.
+/// The columns are those of the manual of Marxan with Zones 1.0.1, in this project's profile.
 pub fn wants_zone_bounds(alloc: Global) -> Result<Wants, NoMemory>
     ensures { IfOk result (λ wants. wants ≡ zone_bound_columns) }
 {

@@ -13,6 +13,7 @@ use std::alloc::Global;
 /// at `zone * zones + zone` in both orders; or the first fault of its rows: a zone or a cost that is
 /// no number, a zone that isn't known, two zones that have another cost by an earlier row. What isn't
 /// listed is 0.
+/// The file is that of the manual of Marxan with Zones 1.0.1, in this project's profile.
 pub fn read_zone_bounds(alloc: Global, table: &Table, zones: &Ids) -> Result<Vec<u64>, RowFault>
     requires zones { length zones.now ≤ 60 }
     requires wide { All (λ row. length row ≡ 3) table.now }

@@ -162,7 +162,7 @@ impl Problem {
         self.parts.available
     }
 
-    /// The cost term of a unit in a zone, at most 10^18.
+    /// The cost term of a unit in a zone, in ten-thousandths, at most 10^18.
     #[inline]
     pub fn cost_of(&self, unit: u32, zone: u8) -> u64
         requires unit { unit < unit_count self.now }
@@ -184,7 +184,7 @@ impl Problem {
         self.neighbours(unit).len() as u32
     }
 
-    /// The neighbours of a unit, each with the length between the two.
+    /// The neighbours of a unit, each with the length between the two in ten-thousandths.
     #[inline]
     pub fn neighbours(&self, unit: u32) -> &[(u32, u64)]
         requires { unit < unit_count self.now }
@@ -219,7 +219,8 @@ impl Problem {
         self.parts.outer.as_slice()[unit as usize]
     }
 
-    /// The boundary term of a length between two zones, at most 10^18.
+    /// The boundary term of a length between two zones, in ten-thousandths, at most 10^18: the length
+    /// times the rate of the two zones (Watts et al. 2009), rounded half up (this project's profile).
     #[inline]
     pub fn edge_term(&self, len: u64, k: u8, l: u8) -> u64
         requires length { IsLength self.now len }
@@ -254,7 +255,8 @@ impl Problem {
         self.parts.targets.as_slice()[t as usize]
     }
 
-    /// What a unit gains for a target row in a zone, at most 10^18.
+    /// What a unit gains for a target row in a zone, in ten-thousandths, at most 10^18: the amount times
+    /// the zone's contribution (Watts et al. 2009), rounded half up (this project's profile).
     pub fn gain(&self, t: u32, unit: u32, zone: u8) -> u64
         requires row { t < row_count self.now }
         requires unit { unit < unit_count self.now }
@@ -327,7 +329,8 @@ impl Problem {
             + feature as usize]
     }
 
-    /// The penalty of a target row for which so much is held, at most 10^18.
+    /// The penalty of a target row for which so much is held, in ten-thousandths, at most 10^18: the
+    /// missing share of its weight (Watts et al. 2009), rounded half up (this project's profile).
     #[inline]
     pub fn penalty_term(&self, t: u32, held: u64) -> u64
         requires { t < row_count self.now }

@@ -11,7 +11,8 @@ use crate::plan::Plan;
 use crate::problem::Problem;
 use crate::score::Score;
 
-/// The score of a plan: its cost, its boundary cost, and the penalties for what it misses.
+/// The score of a plan, in ten-thousandths: its cost, its boundary cost, and the penalties for what it
+/// misses, as in Watts et al. 2009. Each term is rounded half up by itself, which is this project's profile.
 pub fn evaluate(problem: &Problem, plan: &Plan) -> Score
     requires { IsLegalPlan problem.now plan.now }
     ensures score { result ≡ score_of_plan problem.now plan.now }
@@ -79,7 +80,8 @@ fn penalty(problem: &Problem, plan: &Plan) -> u128
     penalty
 }
 
-/// What a plan holds for a target row: the gains of all units in their zones.
+/// What a plan holds for a target row, in ten-thousandths: the gains of all units in their zones, as in
+/// Watts et al. 2009.
 pub fn held(problem: &Problem, plan: &Plan, t: u32) -> u64
     requires legal { IsLegalPlan problem.now plan.now }
     requires row { t < row_count problem.now }
@@ -94,7 +96,8 @@ pub fn held(problem: &Problem, plan: &Plan, t: u32) -> u64
     held
 }
 
-/// How much is missing for a target row where so much is held: nothing where the level is reached.
+/// How much is missing for a target row where so much is held, both in ten-thousandths: nothing where the
+/// level is reached. This is the shortfall of Watts et al. 2009.
 pub fn short(problem: &Problem, t: u32, held: u64) -> u64
     requires { t < row_count problem.now }
     ensures { result ≡ shortfall_of problem.now t held }

@@ -6,8 +6,7 @@ use Rattle.std.proofs.lemmas.List.{append-nil, length-replicate, map-id}
 use Rattle.std.proofs.lemmas.List.Elements.{All-append, All-replicate}
 use Rattle.std.proofs.lemmas.List.FromFn.{map-range_with_len_more}
 use Rattle.std.proofs.lemmas.Grind.{flat_map-append}
-use Rattle.mz_targets.specs.Contribs.{AreFractions}
-use Rattle.mz_units.specs.ZoneCosts.{AreMultipliers}
+use Rattle.mz_rows.specs.ByZone.{AreByZone}
 use Rattle.mz_project.specs.Defaults.{one_outside, ones_outside}
 
 one_place_more : (n : ℕ) → range_with_len 0 (n + 1) ≡ range_with_len 0 n ++ n ∷ []
@@ -34,20 +33,15 @@ small : (b : Bool) → cond b 0 (10 ^ 6) ≤ 10 ^ 18
 small true = omega arith
 small false = omega arith
 
-pub multipliers-fit : (zones things available : ℕ) → AreMultipliers zones things (ones_outside zones things available)
-multipliers-fit zero things available = subst (AreMultipliers 0 things) (sym (ones-none things available)) (record { all_pairs = omega arith; small = λ k d within. absurd (omega arith) })
-multipliers-fit (suc zones) things available =
-    let before = multipliers-fit zones things available in
+pub ones-fit : (zones things available : ℕ) → AreByZone zones things (ones_outside zones things available)
+ones-fit zero things available = subst (AreByZone 0 things) (sym (ones-none things available)) (record { all_pairs = omega arith; small = λ k d within. absurd (omega arith) })
+ones-fit (suc zones) things available =
+    let before = ones-fit zones things available in
     let pairs = before.all_pairs in
     let row = length-replicate things (one_outside available zones) in
     let whole = length-append (ones_outside zones things available) (replicate things (one_outside available zones)) in
-    subst (AreMultipliers (suc zones) things) (sym (ap (λ n. ones_outside n things available) (sym (add-one zones)) ∙ one_zone_more zones things available))
+    subst (AreByZone (suc zones) things) (sym (ap (λ n. ones_outside n things available) (sym (add-one zones)) ∙ one_zone_more zones things available))
     (record {
       all_pairs = omega (arith, pairs, row, whole);
       small = All-append (λ number. number ≤ 10 ^ 18) (ones_outside zones things available) (replicate things (one_outside available zones)) before.small (All-replicate (λ number. number ≤ 10 ^ 18) things (one_outside available zones) (small (zones == available)));
     })
-
-pub fractions-fit : (zones things available : ℕ) → AreFractions zones things (ones_outside zones things available)
-fractions-fit zones things available =
-    let fit = multipliers-fit zones things available in
-    record { all_pairs = fit.all_pairs; small = fit.small }

@@ -3,14 +3,13 @@ use Rattle.std.specs.Prelude.{◌≡◌, ℕ, ◌<◌, List, length}
 use Rattle.std.specs.List.{All}
 use Rattle.mz_bounds.specs.Bounds.{AreFitBounds}
 use Rattle.mz_bounds.specs.ZoneBounds.{AreZoneBounds}
+use Rattle.mz_rows.specs.ByZone.{AreByZone}
 use Rattle.mz_targets.specs.Amounts.{AreAmounts}
-use Rattle.mz_targets.specs.Contribs.{AreFractions}
 use Rattle.mz_targets.specs.Features.{IsFeatureList}
 use Rattle.mz_targets.specs.ZoneTargets.{AreZoneTargets}
 use Rattle.mz_units.specs.Named.{IsNamedList}
 use Rattle.mz_units.specs.UnitRows.{IsUnitList}
 use Rattle.mz_units.specs.ZoneSets.{IsZoneSet}
-use Rattle.mz_units.specs.ZoneCosts.{AreMultipliers}
 use Rattle.mz_project.specs.declared.area.Area.{Area}
 use Rattle.mz_project.specs.declared.boundaries.Boundaries.{Boundaries}
 use Rattle.mz_project.specs.declared.region.Region.{Region}
@@ -22,13 +21,13 @@ pub record FitsArea (area : Area) : Type 0 where
   pub available : area.available < length area.zones.ids
   pub costs : IsNamedList area.costs.ids area.costs.names
   pub units : IsUnitList (length area.costs.ids) area.units
-  pub multipliers : AreMultipliers (length area.zones.ids) (length area.costs.ids) area.multipliers
+  pub multipliers : AreByZone (length area.zones.ids) (length area.costs.ids) area.multipliers
 
 -- amounts and targets of features, in units and zones of the area
 pub record FitsTargets (area : Area) (targets : Targets) : Type 0 where
   pub features : IsFeatureList targets.features
   pub amounts : AreAmounts (length area.units.ids) (length targets.features.ids) targets.amounts
-  pub fractions : AreFractions (length area.zones.ids) (length targets.features.ids) targets.fractions
+  pub fractions : AreByZone (length area.zones.ids) (length targets.features.ids) targets.fractions
   pub zone_targets : AreZoneTargets (length area.zones.ids) (length targets.features.ids) targets.zone_targets
 
 -- a set of zones that isn't empty for each unit

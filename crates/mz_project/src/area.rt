@@ -1,10 +1,11 @@
 //! The zones, the costs, the units, and what the zones multiply the costs by.
 ghost use Rattle.std.specs.Prelude.{◌≡◌, ◌<◌, ◌≤◌, ◌+◌, IfOk, length};
 ghost use Rattle.std.specs.List.{All};
+ghost use Rattle.mz_rows.specs.ByZone.{AreByZone};
 ghost use Rattle.mz_units.specs.Named.{IsNamedList, costs_of, zones_of};
 ghost use Rattle.mz_units.specs.UnitRows.{IsUnitList, units_of};
 ghost use Rattle.mz_units.specs.Wanted.{cost_columns, unit_columns, zone_columns, zone_cost_columns};
-ghost use Rattle.mz_units.specs.ZoneCosts.{AreMultipliers, multipliers_of};
+ghost use Rattle.mz_units.specs.ZoneCosts.{multipliers_of};
 ghost use Rattle.mz_project.specs.Area.{area_read, available_place, costs_read, default_costs as costs_by_default, default_zones as zones_by_default, multipliers_read, units_read, zones_read};
 ghost use Rattle.mz_project.specs.Fits.{FitsArea};
 ghost use Rattle.mz_project.specs.ReadAs.{ReadAs, TakenAs};
@@ -204,7 +205,7 @@ fn multipliers<S: Shelf>(
     requires zones { length zones.now.ids ≤ 60 }
     requires costs { length costs.now.ids ≤ 60 }
     ensures read { ReadAs (multipliers_read params.now zones.now available costs.now) (S.state shelf.old) (S.state shelf.new) result }
-    ensures fit { IfOk result (AreMultipliers (length zones.now.ids) (length costs.now.ids)) }
+    ensures fit { IfOk result (AreByZone (length zones.now.ids) (length costs.now.ids)) }
 {
     match &params.zone_costs {
         Some(name) => {
@@ -228,7 +229,7 @@ fn multipliers_in(
     requires costs { length costs.now ≤ 60 }
     requires wide { All (λ row. length row ≡ 3) table.now }
     ensures taken { TakenAs (of_rows file.ZoneCosts (multipliers_of zones.now costs.now table.now)) result }
-    ensures fit { IfOk result (AreMultipliers (length zones.now) (length costs.now)) }
+    ensures fit { IfOk result (AreByZone (length zones.now) (length costs.now)) }
 {
     match read_zone_costs(alloc, table, zones, costs) {
         Ok(multipliers) => Ok(Items::new(multipliers)),

@@ -1,7 +1,6 @@
 //! What counts by zone where no file says it.
 ghost use Rattle.std.specs.Prelude.{◌≡◌, ◌^◌, ◌++◌, if◌then◌else◌, IfOk, OnOk, replicate};
-ghost use Rattle.mz_targets.specs.Contribs.{AreFractions};
-ghost use Rattle.mz_units.specs.ZoneCosts.{AreMultipliers};
+ghost use Rattle.mz_rows.specs.ByZone.{AreByZone};
 ghost use Rattle.mz_project.specs.Defaults.{ones_outside as ones_by_zone};
 
 use mz_num::{Items, NoMemory};
@@ -16,8 +15,7 @@ pub(crate) fn ones_outside(
     available: u8,
 ) -> Result<Items<u64>, NoMemory>
     ensures ones { IfOk result (λ ones. ones ≡ ones_by_zone zones things available) }
-    ensures multipliers { IfOk result (AreMultipliers zones things) }
-    ensures fractions { IfOk result (AreFractions zones things) }
+    ensures fit { IfOk result (AreByZone zones things) }
 {
     let mut ones = Vec::new(alloc);
     for zone in 0..zones {

@@ -1,8 +1,9 @@
 //! What is asked of a plan: the features, what of them each unit has, and the zone targets.
 ghost use Rattle.std.specs.Prelude.{◌≡◌, ◌≤◌, IfOk, length};
 ghost use Rattle.std.specs.List.{All};
+ghost use Rattle.mz_rows.specs.ByZone.{AreByZone};
 ghost use Rattle.mz_targets.specs.Amounts.{AreAmounts, amounts_of};
-ghost use Rattle.mz_targets.specs.Contribs.{AreFractions, fractions_of};
+ghost use Rattle.mz_targets.specs.Contribs.{fractions_of};
 ghost use Rattle.mz_targets.specs.Features.{IsFeatureList, features_of};
 ghost use Rattle.mz_targets.specs.Wanted.{amount_columns, contrib_columns, feature_columns, zone_target_columns};
 ghost use Rattle.mz_targets.specs.ZoneTargets.{AreZoneTargets, zone_targets_of};
@@ -152,7 +153,7 @@ fn fractions<S: Shelf>(
 ) -> Result<Items<u64>, ReadFault>
     requires { length area.now.zones.ids ≤ 60 }
     ensures read { ReadAs (fractions_read params.now area.now features.now) (S.state shelf.old) (S.state shelf.new) result }
-    ensures fit { IfOk result (AreFractions (length area.now.zones.ids) (length features.now.ids)) }
+    ensures fit { IfOk result (AreByZone (length area.now.zones.ids) (length features.now.ids)) }
 {
     match &params.contribs {
         Some(name) => {
@@ -179,7 +180,7 @@ fn fractions_in(
     requires zones { length zones.now ≤ 60 }
     requires wide { All (λ row. length row ≡ 3) table.now }
     ensures taken { TakenAs (of_rows file.Contribs (fractions_of zones.now features.now table.now)) result }
-    ensures fit { IfOk result (AreFractions (length zones.now) (length features.now)) }
+    ensures fit { IfOk result (AreByZone (length zones.now) (length features.now)) }
 {
     match read_contribs(alloc, table, zones, features) {
         Ok(fractions) => Ok(Items::new(fractions)),

@@ -2,5 +2,6 @@ pub mod AnswerLemmas
 pub mod RowLemmas
 pub mod IdLemmas
 pub mod KeyedLemmas
+mod ByZoneLemmas
 pub mod PairLemmas
 pub mod PairListLemmas

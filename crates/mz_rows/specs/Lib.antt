@@ -1,4 +1,5 @@
 pub mod Answer
+pub mod ByZone
 pub mod Columns
 pub mod Keyed
 pub mod Pairs

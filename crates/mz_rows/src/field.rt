@@ -8,7 +8,8 @@ use mz_tables::{Ids, RowFault, Table};
 /// The greatest id, as in every file of the profile.
 const GREATEST_ID: u64 = 2_147_483_647;
 
-/// The field of a row, and an empty one where the column isn't there.
+/// The bytes of a field, trimmed of spaces and tabs as the table has them, and no bytes where the column
+/// isn't there. Rows count from 0, columns are places among the wants, as in every call of this file.
 pub fn text_at(table: &Table, row: u32, column: u16) -> &[u8]
     requires row { row < length table.now }
     requires column { column < length (get_or table.now row []) }
@@ -20,7 +21,9 @@ pub fn text_at(table: &Table, row: u32, column: u16) -> &[u8]
     }
 }
 
-/// The id in a column. Row r stands on line r + 2.
+/// The id in a column: a whole number of at most 2147483647. Or BadNumber at the row's line, which is
+/// `row + 2` since lines count records and the header is 1, with the fault of the number's text. That
+/// ids are such numbers, and how a number is written, is this project's profile.
 pub fn id_at(table: &Table, row: u32, column: u16) -> Result<u32, RowFault>
     requires row { row < length table.now }
     requires few { row ≤ 268435456 }
@@ -34,7 +37,8 @@ pub fn id_at(table: &Table, row: u32, column: u16) -> Result<u32, RowFault>
     }
 }
 
-/// The ten-thousandths in a column.
+/// The number in a column, in ten-thousandths, rounded half up and at most 10^18. Or BadNumber at its line
+/// and column, with the fault of the number's text. How a number is written is this project's profile.
 pub fn ten4_at(table: &Table, row: u32, column: u16) -> Result<u64, RowFault>
     requires row { row < length table.now }
     requires few { row ≤ 268435456 }
@@ -48,7 +52,8 @@ pub fn ten4_at(table: &Table, row: u32, column: u16) -> Result<u64, RowFault>
     }
 }
 
-/// The millionths in a column.
+/// The number in a column, in millionths, rounded half up and at most 10^18. Or BadNumber at its line and
+/// column, with the fault of the number's text. How a number is written is this project's profile.
 pub fn mic6_at(table: &Table, row: u32, column: u16) -> Result<u64, RowFault>
     requires row { row < length table.now }
     requires few { row ≤ 268435456 }
@@ -62,7 +67,9 @@ pub fn mic6_at(table: &Table, row: u32, column: u16) -> Result<u64, RowFault>
     }
 }
 
-/// The place of a column's id in the file where it belongs.
+/// The place of a column's id among these ids, which are those of the file where it belongs. Or the fault
+/// of an id that is no number, as `id_at` has it, or Unknown at its line and column where it isn't among
+/// them. That an unknown id is refused is this project's profile.
 pub fn place_at(table: &Table, row: u32, column: u16, ids: &Ids) -> Result<u32, RowFault>
     requires row { row < length table.now }
     requires few { row ≤ 268435456 }

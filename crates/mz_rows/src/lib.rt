@@ -2,8 +2,10 @@
 //! reader of a file states what all rows give.
 #![tactic(auto)]
 
+mod by_zone;
 mod field;
 #[cfg(test)]
 mod tests;
 
+pub use by_zone::read_by_zone;
 pub use field::{id_at, mic6_at, place_at, ten4_at, text_at};

@@ -21,6 +21,46 @@ fn table_of(alloc: Global, bytes: &[u8]) -> Result<Table, NoMemory>
     }
 }
 
+/// A table of the columns `z`, `x` and `n`.
+fn pairs_of(alloc: Global, bytes: &[u8]) -> Result<Table, NoMemory>
+    requires { length bytes.now ≤ 1000 }
+    ensures { IfOk result (λ table. All (λ row. length row ≡ 3) table) }
+{
+    let mut wants = Wants::new(alloc)?;
+    wants.add(alloc, b"z", b"", true)?;
+    wants.add(alloc, b"x", b"", true)?;
+    wants.add(alloc, b"n", b"", true)?;
+    match Table::read(alloc, bytes, &wants) {
+        Ok(table) => Ok(table),
+        Err(_) => Err(NoMemory),
+    }
+}
+
+fn two_ids(alloc: Global, first: u32, second: u32) -> Result<Ids, NoMemory>
+    ensures { IfOk result (λ ids. length ids ≤ 60) }
+{
+    let mut ids = Ids::new(alloc)?;
+    ids.add(alloc, first)?;
+    ids.add(alloc, second)?;
+    Ok(ids)
+}
+
+/// The numbers of the zones 7 and 3 with the things 5 and 6, or the first fault.
+fn four_numbers(alloc: Global, bytes: &[u8]) -> Result<Result<[u64; 4], RowFault>, NoMemory>
+    requires { length bytes.now ≤ 1000 }
+{
+    let zones = two_ids(alloc, 7, 3)?;
+    let things = two_ids(alloc, 5, 6)?;
+    let table = pairs_of(alloc, bytes)?;
+    match read_by_zone(alloc, &table, &zones, &things) {
+        Ok(numbers) => match *numbers.as_slice() {
+            [a, b, c, d] => Ok(Ok([a, b, c, d])),
+            _ => Err(NoMemory),
+        },
+        Err(fault) => Ok(Err(fault)),
+    }
+}
+
 /// What the first field reads as: a text's length, an id, ten-thousandths, millionths, and the place of
 /// an id among 7 and 3.
 fn first_field(
@@ -95,6 +135,26 @@ fn fields_read_as_numbers(rt: HostRuntime) -> Result<(), Fail> {
     for (bytes, text, numbers) in table {
         let read = first_field(rt.alloc(), bytes.as_bytes())?;
         assert!(rt; read == Some((text, numbers)), "{bytes}");
+    }
+    Ok(())
+}
+
+#[test]
+fn numbers_stand_by_zone_and_thing(rt: HostRuntime) -> Result<(), Fail> {
+    let table = [
+        ("z,x,n\n3,5,0.5\n7,6,2\n", Ok([0, 2_000_000, 500_000, 0])),
+        ("z,x,n\n3,5,1\n3,5,2\n", Err(RowFault::Repeated(3))),
+        ("z,x,n\n7,6,1\n5,6,1\n", Err(RowFault::Unknown(3, 0))),
+        ("z,x,n\n7,3,1\n", Err(RowFault::Unknown(2, 1))),
+        (
+            "z,x,n\n7,6,\n",
+            Err(RowFault::BadNumber(2, 2, NumFault::Empty)),
+        ),
+    ];
+    for (bytes, numbers) in table {
+        assert!(rt; bytes.len() <= 1000);
+        let read = four_numbers(rt.alloc(), bytes.as_bytes())?;
+        assert!(rt; read == numbers, "{bytes}");
     }
     Ok(())
 }

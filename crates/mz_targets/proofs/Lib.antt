@@ -1,4 +1,3 @@
-pub mod ContribLemmas
 pub mod FeatureLemmas
 pub mod ZoneTargetLemmas
 pub mod PairSumLemmas

@@ -26,6 +26,7 @@ pub(crate) struct Amount {
 /// ten-thousandths, in order of unit and feature, or the first fault of its rows: a row past the
 /// 5,000,000th; a feature, a unit or an amount that is no number, an id that isn't known. The rows of
 /// one pair are added, and a pair whose sum is 0 isn't listed.
+/// The file is that of the manual of Marxan with Zones 1.0.1, in this project's profile.
 pub fn read_amounts(
     alloc: Global,
     table: &Table,

@@ -48,6 +48,7 @@ pub(crate) struct FeatureRow {
 /// rows: a row past the 10,000th; an id, target, proportion or penalty factor that is no number; a
 /// left-out column that is no number or not 0; an id that stands earlier. Without a field the target
 /// and the proportion are 0, the penalty factor is 1 and the name is empty.
+/// The file is that of the manual of Marxan with Zones 1.0.1, in this project's profile.
 pub fn read_features(alloc: Global, table: &Table) -> Result<FeatureList, RowFault>
     requires { All (λ row. length row ≡ 9) table.now }
     ensures answer { Answers result (features_of table.now) }

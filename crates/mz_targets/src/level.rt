@@ -8,7 +8,8 @@ use mz_num::round_half;
 const ONE: u128 = 1_000_000;
 
 /// The level of a target, in ten-thousandths: the value itself, which is then in ten-thousandths;
-/// or, where it is a proportion, so many millionths of the total, rounded half up.
+/// or, where it is a proportion, so many millionths of the total, rounded half up. The two kinds are those
+/// of the manual of Marxan with Zones 1.0.1, the rounding this project's profile.
 #[tactic(auto, unfolding(crate::specs::Level::level))]
 pub fn level_of(value: u64, total: u64, proportion: bool) -> u128
     requires value { value ≤ 10 ^ 18 }

@@ -8,6 +8,7 @@ use std::alloc::Global;
 
 /// `id`; and `target`, `prop`, `spf` or `fpf`, `name`, `target2`, `sepnum`, `sepdistance`,
 /// `targetocc`, each of which may be missing.
+/// The columns are those of the manual of Marxan with Zones 1.0.1, in this project's profile.
 pub fn wants_features(alloc: Global) -> Result<Wants, NoMemory>
     ensures { IfOk result (λ wants. wants ≡ feature_columns) }
 {
@@ -25,6 +26,7 @@ pub fn wants_features(alloc: Global) -> Result<Wants, NoMemory>
 }
 
 /// `featureid` or `species`; `puid` or `pu`; `amount`.
+/// The columns are those of the manual of Marxan with Zones 1.0.1, in this project's profile.
 pub fn wants_amounts(alloc: Global) -> Result<Wants, NoMemory>
     ensures { IfOk result (λ wants. wants ≡ amount_columns) }
 {
@@ -36,6 +38,7 @@ pub fn wants_amounts(alloc: Global) -> Result<Wants, NoMemory>
 }
 
 /// `zoneid`, `featureid`, `fraction`.
+/// The columns are those of the manual of Marxan with Zones 1.0.1, in this project's profile.
 pub fn wants_contribs(alloc: Global) -> Result<Wants, NoMemory>
     ensures { IfOk result (λ wants. wants ≡ contrib_columns) }
 {
@@ -47,6 +50,7 @@ pub fn wants_contribs(alloc: Global) -> Result<Wants, NoMemory>
 }
 
 /// `zoneid`, `featureid`, `target`; `targettype`, which may be missing.
+/// The columns are those of the manual of Marxan with Zones 1.0.1, in this project's profile.
 pub fn wants_zone_targets(alloc: Global) -> Result<Wants, NoMemory>
     ensures { IfOk result (λ wants. wants ≡ zone_target_columns) }
 {

@@ -33,6 +33,7 @@ pub struct ZoneTarget {
 /// the file, or the first fault of its rows: a row past the 90,000th; a zone, a feature, a target or
 /// a type that is no number, an id that isn't known, a type other than 0 and 1; a pair that stands
 /// earlier.
+/// The file is that of the manual of Marxan with Zones 1.0.1, in this project's profile.
 pub fn read_zone_targets(
     alloc: Global,
     table: &Table,

@@ -1,6 +1,5 @@
 pub mod NamedLemmas
 pub mod UnitLemmas
-pub mod ZoneCostLemmas
 pub mod ZoneSetLemmas
 pub mod LockLemmas
 pub mod TermLemmas

@@ -12,6 +12,7 @@ use std::alloc::Global;
 /// Reads the zone sets under the locks of a table that has the columns of `wants_locks`: a locked
 /// unit has its one zone, every other unit its set. Or the first fault of the rows: a unit or a
 /// zone that is no number or isn't known, a unit that has a lock, a zone outside the unit's set.
+/// The file is that of the manual of Marxan with Zones 1.0.1, in this project's profile.
 pub fn read_locks(
     alloc: Global,
     table: &Table,

@@ -44,6 +44,7 @@ pub(crate) struct Named {
 
 /// Reads the zones of a table that has the columns of `wants_zones`, or the first fault of its
 /// rows: a row past the 60th, an id that is no number, an id that stands earlier.
+/// The file is that of the manual of Marxan with Zones 1.0.1, in this project's profile.
 #[tactic(auto, unfolding(crate::specs::Named::zones_of))]
 pub fn read_zones(alloc: Global, table: &Table) -> Result<ZoneList, RowFault>
     requires { All (λ row. length row ≡ 2) table.now }
@@ -55,6 +56,7 @@ pub fn read_zones(alloc: Global, table: &Table) -> Result<ZoneList, RowFault>
 }
 
 /// Reads the costs of a table that has the columns of `wants_costs`, with the faults of `read_zones`.
+/// The file is that of the manual of Marxan with Zones 1.0.1, in this project's profile.
 #[tactic(auto, unfolding(crate::specs::Named::costs_of))]
 pub fn read_costs(alloc: Global, table: &Table) -> Result<CostList, RowFault>
     requires { All (λ row. length row ≡ 2) table.now }

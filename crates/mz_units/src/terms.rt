@@ -12,7 +12,8 @@ use std::alloc::Global;
 const ONE: u128 = 1_000_000;
 
 /// The cost term of each unit in each zone, in ten-thousandths at `unit * zones + zone`: the sum of
-/// its costs, each times its multiplier in the zone, rounded half up.
+/// its costs, each times its multiplier in the zone, as in Watts et al. 2009, rounded half up, as this
+/// project's profile rounds.
 pub fn cost_terms(
     alloc: Global,
     units: &UnitList,

@@ -2,7 +2,7 @@
 ghost use Rattle.std.specs.Prelude.{◌≡◌, ◌≤◌, length, IfOk};
 ghost use Rattle.mz_units.specs.Named.{IsNamedList};
 ghost use Rattle.mz_units.specs.UnitRows.{IsUnitList};
-ghost use Rattle.mz_units.specs.ZoneCosts.{AreMultipliers};
+ghost use Rattle.mz_rows.specs.ByZone.{AreByZone};
 
 use super::*;
 use mz_num::{NoMemory, NumFault};
@@ -73,7 +73,7 @@ fn multipliers_in(
     requires small { length bytes.now ≤ 1000 }
     requires zones { length zones.now ≤ 60 }
     requires costs { length costs.now ≤ 60 }
-    ensures { IfOk result (λ numbers. AreMultipliers (length zones.now) (length costs.now) numbers.items) }
+    ensures { IfOk result (λ numbers. AreByZone (length zones.now) (length costs.now) numbers.items) }
 {
     let wants = wants_zone_costs(alloc)?;
     let table = Table::read(alloc, bytes, &wants)?;

@@ -8,6 +8,7 @@ use mz_tables::Wants;
 use std::alloc::Global;
 
 /// `zoneid` or `id`; `zonename` or `name`, which may be missing.
+/// The columns are those of the manual of Marxan with Zones 1.0.1, in this project's profile.
 pub fn wants_zones(alloc: Global) -> Result<Wants, NoMemory>
     ensures { IfOk result (λ wants. wants ≡ zone_columns) }
 {
@@ -18,6 +19,7 @@ pub fn wants_zones(alloc: Global) -> Result<Wants, NoMemory>
 }
 
 /// `costid` or `id`; `costname` or `name`.
+/// The columns are those of the manual of Marxan with Zones 1.0.1, in this project's profile.
 pub fn wants_costs(alloc: Global) -> Result<Wants, NoMemory>
     ensures { IfOk result (λ wants. wants ≡ cost_columns) }
 {
@@ -28,6 +30,7 @@ pub fn wants_costs(alloc: Global) -> Result<Wants, NoMemory>
 }
 
 /// `id`, and a column for each cost by its name.
+/// The columns are those of the manual of Marxan with Zones 1.0.1, in this project's profile.
 pub fn wants_units(alloc: Global, costs: &CostList) -> Result<Wants, NoMemory>
     requires { length costs.now.names ≤ 60 }
     ensures { IfOk result (λ wants. wants ≡ unit_columns costs.now.names) }
@@ -41,6 +44,7 @@ pub fn wants_units(alloc: Global, costs: &CostList) -> Result<Wants, NoMemory>
 }
 
 /// `zoneid`, `costid`, `multiplier`.
+/// The columns are those of the manual of Marxan with Zones 1.0.1, in this project's profile.
 pub fn wants_zone_costs(alloc: Global) -> Result<Wants, NoMemory>
     ensures { IfOk result (λ wants. wants ≡ zone_cost_columns) }
 {
@@ -52,6 +56,7 @@ pub fn wants_zone_costs(alloc: Global) -> Result<Wants, NoMemory>
 }
 
 /// `puid`, `zoneid`.
+/// The columns are those of the manual of Marxan with Zones 1.0.1, in this project's profile.
 pub fn wants_zone_sets(alloc: Global) -> Result<Wants, NoMemory>
     ensures { IfOk result (λ wants. wants ≡ unit_zone_columns) }
 {
@@ -62,6 +67,7 @@ pub fn wants_zone_sets(alloc: Global) -> Result<Wants, NoMemory>
 }
 
 /// `puid`, `zoneid`.
+/// The columns are those of the manual of Marxan with Zones 1.0.1, in this project's profile.
 pub fn wants_locks(alloc: Global) -> Result<Wants, NoMemory>
     ensures { IfOk result (λ wants. wants ≡ unit_zone_columns) }
 {

@@ -1,8 +1,7 @@
 use Rattle.std.proofs.Common.{◌≡◌, rules, arith, sym, ap, subst, ◌∙◌}
-use Rattle.mz_targets.specs.Contribs.{AreFractions}
-use Rattle.mz_units.specs.ZoneCosts.{AreMultipliers}
+use Rattle.mz_rows.specs.ByZone.{AreByZone}
 use Rattle.mz_project.specs.Defaults.{ones_outside}
-use Rattle.mz_project.proofs.DefaultLemmas.{ones-more, ones-none, multipliers-fit, fractions-fit}
+use Rattle.mz_project.proofs.DefaultLemmas.{ones-more, ones-none, ones-fit}
 use Rattle.mz_project.proofs.defaults.ones_outside.Goals as goal
 
 pub loop-zone-init : goal.loop-zone-init
@@ -11,12 +10,7 @@ loop-zone-init c = c.new-ones.ensures.items ∙ sym (ones-none c.args.things c.a
 pub loop-zone-preserved : goal.loop-zone-preserved
 loop-zone-preserved c = ones-more c.loop-zone.zone c.args.things c.args.available c.loop-zone.ones.items c.push_ones.new.ones.items _ c.loop-zone.invariant (search rules) c.in_ok-push_ones.ensures
 
-pub returns-clause-multipliers : goal.returns-clause-multipliers
-returns-clause-multipliers c =
+pub returns-clause-fit : goal.returns-clause-fit
+returns-clause-fit c =
     let all : c.loop-zone.zone ≡ c.args.zones = omega arith in
-    subst (AreMultipliers c.args.zones c.args.things) (sym (c.new.ensures ∙ c.loop-zone.invariant ∙ ap (λ n. ones_outside n c.args.things c.args.available) all)) (multipliers-fit c.args.zones c.args.things c.args.available)
-
-pub returns-clause-fractions : goal.returns-clause-fractions
-returns-clause-fractions c =
-    let all : c.loop-zone.zone ≡ c.args.zones = omega arith in
-    subst (AreFractions c.args.zones c.args.things) (sym (c.new.ensures ∙ c.loop-zone.invariant ∙ ap (λ n. ones_outside n c.args.things c.args.available) all)) (fractions-fit c.args.zones c.args.things c.args.available)
+    subst (AreByZone c.args.zones c.args.things) (sym (c.new.ensures ∙ c.loop-zone.invariant ∙ ap (λ n. ones_outside n c.args.things c.args.available) all)) (ones-fit c.args.zones c.args.things c.args.available)
