@@ -12,6 +12,10 @@ use Rattle.mz_project.specs.ReadAs.{IsGiven, IsStopped, ReadAs, TakenAs}
 use Rattle.mz_project.specs.Reads.{taken}
 use Rattle.mz_project.proofs.ReadLemmas.{by_default, goes_on, is_taken, stops}
 
+pub zones_stop : (params : Params) (old new : State) (fault : ReadFault) → IsStopped (zones_read params) old new fault → IsStopped (area_read params) old new fault
+unfolding area_read
+zones_stop params old new fault stopped = stops (zones_read params) (read_behind_zones params) old new fault stopped
+
 -- behind the zones
 zones_on : (params : Params) (zones : ZoneList) (available : ℕ) (old mid new : State) (answer : Result Area ReadFault) → IsGiven (zones_read params) old mid zones → TakenAs (available_place params zones) (Ok available)
     → ReadAs (read_behind_available params zones available) mid new answer → ReadAs (area_read params) old new answer

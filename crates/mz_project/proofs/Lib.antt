@@ -6,6 +6,7 @@ mod AreaLemmas
 mod TargetReadLemmas
 mod BoundaryReadLemmas
 mod RegionLemmas
+mod GivenFileLemmas
 mod BoundaryCostLemmas
 mod DefaultLemmas
 mod LevelLemmas

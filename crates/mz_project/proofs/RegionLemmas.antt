@@ -6,18 +6,19 @@ use Rattle.mz_model.specs.declared.parts.Parts.{Parts}
 use Rattle.mz_project.specs.declared.area.Area.{Area}
 use Rattle.mz_project.specs.declared.boundaries.Boundaries.{Boundaries}
 use Rattle.mz_project.specs.declared.fault.ReadFault.{ReadFault}
+use Rattle.mz_project.specs.declared.fault.ReadFault.TheVariants.{NoMemory}
 use Rattle.mz_project.specs.declared.region.Region.{Region}
 use Rattle.mz_project.specs.declared.targets.Targets.{Targets}
 use Rattle.mz_project.specs.Area.{area_read}
 use Rattle.mz_project.specs.Boundaries.{boundaries_read}
 use Rattle.mz_project.specs.Limits.{limited_parts}
 use Rattle.mz_project.specs.Project.{project_read}
-use Rattle.mz_project.specs.ReadAs.{IsGiven, IsStopped, OnlyRead, ReadAs, TakenAs}
+use Rattle.mz_project.specs.ReadAs.{IsGiven, IsStopped, ReadAs, TakenAs}
 use Rattle.mz_project.specs.Reads.{taken}
 use Rattle.mz_project.specs.Region.{read_behind_allowed, read_behind_area, read_behind_targets, region_of, region_read}
 use Rattle.mz_project.specs.Sets.{allowed_read}
 use Rattle.mz_project.specs.Targets.{targets_read}
-use Rattle.mz_project.proofs.ReadLemmas.{by_default, goes_on, is_taken, stops}
+use Rattle.mz_project.proofs.ReadLemmas.{by_default, ends_here, goes_on, is_taken, stops}
 
 -- behind the area
 area_on : (params : Params) (area : Area) (old one new : State) (answer : Result Region ReadFault) → IsGiven (area_read params) old one area → ReadAs (read_behind_area params area) one new answer → ReadAs (region_read params) old new answer
@@ -71,8 +72,9 @@ unfolding project_read
 limits_end params region old new answer given is =
     goes_on (region_read params) (λ all _. taken (limited_parts params all)) region old new new answer given (is_taken (limited_parts params region) new answer is)
 
-pub memory_ends : (params : Params) (region : Region) (old new : State) → IsGiven (region_read params) old new region → OnlyRead old new
-memory_ends params region old new given = given.read
+pub memory_ends : (params : Params) (region : Region) (old new : State) → IsGiven (region_read params) old new region → IsStopped (project_read params) old new NoMemory
+unfolding project_read
+memory_ends params region old new given = ends_here (region_read params) (λ all _. taken (limited_parts params all)) region old new given
 
 pub problem_given : (params : Params) (region : Region) (parts problem : Parts) (old new : State) → IsGiven (region_read params) old new region → TakenAs (limited_parts params region) (Ok parts) → problem ≡ parts → IsGiven (project_read params) old new problem
 problem_given params region parts problem old new given is same = subst (IsGiven (project_read params) old new) (sym same) (limits_end params region old new (Ok parts) given is)

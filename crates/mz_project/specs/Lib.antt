@@ -2,6 +2,7 @@ pub mod Area
 pub mod Boundaries
 pub mod Defaults
 pub mod Fits
+pub mod GivenFiles
 pub mod Holdings
 pub mod Lengths
 pub mod Limits

@@ -1,9 +1,8 @@
 -- What a reading of files from a shelf answers, and what it leaves.
-use Rattle.std.specs.Prelude.{◌≡◌, ℕ, List, Result, Ok, Err, IfSome}
-use Rattle.std.specs.List.{Contains}
+use Rattle.std.specs.Prelude.{◌≡◌, ℕ, List, ◌∷◌, ◌++◌, Result, Ok, Err, IfSome}
 use Rattle.mz_params.specs.declared.fault.ParamFault.{ParamFault}
 use Rattle.mz_params.specs.declared.fault.ParamFault.TheVariants.{NoMemory as NoMemoryForParams}
-use Rattle.mz_shelf.specs.State.{State, Files, Rose, KeepsCounts}
+use Rattle.mz_shelf.specs.State.{State, Files, Rose, KeepsCounts, reads_after}
 use Rattle.mz_shelf.specs.Shelf.{ReadFailed}
 use Rattle.mz_tables.specs.declared.fault.RowFault.{RowFault}
 use Rattle.mz_tables.specs.declared.fault.RowFault.TheVariants.{NoMemory as NoMemoryForRows}
@@ -48,36 +47,62 @@ RoseForFault (Row which fault) old new = IsRowFault fault
 RoseForFault (Sum what) old new = Unit {0}
 RoseForFault (Weight id) old new = Unit {0}
 
+-- each of these names was read, once and in this order, and no other
+abbrev pub ReadEach : List (List ℕ) → State → State → Type 0
+ReadEach names old new = new.reads ≡ reads_after names old.reads
+
+-- the first few of these names were read so
+pub record ReadFirst (names : List (List ℕ)) (old new : State) : Type 0 where
+  pub front : List (List ℕ)
+  pub behind : List (List ℕ)
+  pub split : names ≡ front ++ behind
+  pub read : ReadEach front old new
+
+-- the names before this one were read so
+pub record ReadBefore (names : List (List ℕ)) (name : List ℕ) (old new : State) : Type 0 where
+  pub front : List (List ℕ)
+  pub behind : List (List ℕ)
+  pub split : names ≡ front ++ name ∷ behind
+  pub read : ReadEach front old new
+
 -- what was wanted is given, as told files give it
 pub record IsGiven {X : Type 0} (reads : Files → Reads X) (old new : State) (x : X) : Type 0 where
   pub read : OnlyRead old new
+  pub names : IfTold old (λ files. ReadEach (reads files).names old new)
   pub given : IfTold old (λ files. (reads files).outcome ≡ Given x)
 
 -- the input is refused for this fault, as told files are
 pub record IsRefused {X : Type 0} (reads : Files → Reads X) (old new : State) (fault : InputFault) : Type 0 where
   pub read : OnlyRead old new
+  pub names : IfTold old (λ files. ReadEach (reads files).names old new)
   pub rose : RoseForFault fault old new
   pub refused : IfTold old (λ files. (reads files).outcome ≡ Refused fault)
 
 -- no file has this name, and among told files it is the one that is missing
 pub record IsMissing {X : Type 0} (reads : Files → Reads X) (old new : State) (name : List ℕ) : Type 0 where
   pub read : OnlyRead old new
+  pub names : IfTold old (λ files. ReadEach (reads files).names old new)
   pub rose : Rose old.counts.misses new.counts.misses
   pub missing : IfTold old (λ files. (reads files).outcome ≡ Missing name)
 
--- a read of this name failed, after nothing but reads; for told files it is the name of one that is read
+-- a read of this name failed, after nothing but the reads before it
 pub record IsUnread {X : Type 0} (reads : Files → Reads X) (old new : State) (name : List ℕ) : Type 0 where
   pub between : State
   pub read : OnlyRead old between
-  pub failed : ReadFailed between new
-  pub named : IfTold old (λ files. Contains (reads files).names name)
+  pub names : IfTold old (λ files. ReadBefore (reads files).names name old between)
+  pub failed : ReadFailed name between new
+
+-- memory ended the reading
+pub record IsCutShort {X : Type 0} (reads : Files → Reads X) (old new : State) : Type 0 where
+  pub read : OnlyRead old new
+  pub names : IfTold old (λ files. ReadFirst (reads files).names old new)
 
 -- why nothing was given
 abbrev pub IsStopped : {X : Type 0} → (Files → Reads X) → State → State → ReadFault → Type 0
 IsStopped reads old new (Shelf name) = IsUnread reads old new name
 IsStopped reads old new (Absent name) = IsMissing reads old new name
 IsStopped reads old new (Input fault) = IsRefused reads old new fault
-IsStopped reads old new NoMemory = OnlyRead old new
+IsStopped reads old new NoMemory = IsCutShort reads old new
 
 -- the answer is what the files give, or why they give nothing
 abbrev pub ReadAs : {X : Type 0} → (Files → Reads X) → State → State → Result X ReadFault → Type 0

@@ -4,12 +4,11 @@ ghost use Rattle.std.specs.List.{All};
 ghost use Rattle.mz_rows.specs.ByZone.{AreByZone};
 ghost use Rattle.mz_units.specs.Named.{IsNamedList, costs_of, zones_of};
 ghost use Rattle.mz_units.specs.UnitRows.{IsUnitList, units_of};
-ghost use Rattle.mz_units.specs.Wanted.{cost_columns, unit_columns, zone_columns, zone_cost_columns};
 ghost use Rattle.mz_units.specs.ZoneCosts.{multipliers_of};
 ghost use Rattle.mz_project.specs.Area.{area_read, available_place, costs_read, default_costs as costs_by_default, default_zones as zones_by_default, multipliers_read, units_read, zones_read};
 ghost use Rattle.mz_project.specs.Fits.{FitsArea};
 ghost use Rattle.mz_project.specs.ReadAs.{ReadAs, TakenAs};
-ghost use Rattle.mz_project.specs.Reads.{of_rows, rows_read};
+ghost use Rattle.mz_project.specs.Reads.{of_rows};
 ghost use Rattle.mz_project.specs.declared.fault.Which.TheVariants as file;
 
 use crate::defaults::ones_outside;

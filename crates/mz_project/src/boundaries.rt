@@ -2,7 +2,6 @@
 ghost use Rattle.std.specs.Prelude.{◌≡◌, ◌≤◌, IfOk, length};
 ghost use Rattle.std.specs.List.{All};
 ghost use Rattle.mz_bounds.specs.Bounds.{AreFitBounds, bounds_of};
-ghost use Rattle.mz_bounds.specs.Wanted.{bound_columns, zone_bound_columns};
 ghost use Rattle.mz_bounds.specs.ZoneBounds.{AreZoneBounds, zone_bounds_of};
 ghost use Rattle.mz_project.specs.Boundaries.{boundaries_read, bounds_read, default_boundary_cost, default_boundary_costs as costs_by_default, no_bounds as none_of_bounds, zone_bounds_read};
 ghost use Rattle.mz_project.specs.Fits.{FitsArea, FitsBoundaries};

@@ -5,7 +5,6 @@ ghost use Rattle.mz_rows.specs.ByZone.{AreByZone};
 ghost use Rattle.mz_targets.specs.Amounts.{AreAmounts, amounts_of};
 ghost use Rattle.mz_targets.specs.Contribs.{fractions_of};
 ghost use Rattle.mz_targets.specs.Features.{IsFeatureList, features_of};
-ghost use Rattle.mz_targets.specs.Wanted.{amount_columns, contrib_columns, feature_columns, zone_target_columns};
 ghost use Rattle.mz_targets.specs.ZoneTargets.{AreZoneTargets, zone_targets_of};
 ghost use Rattle.mz_project.specs.Fits.{FitsArea, FitsTargets};
 ghost use Rattle.mz_project.specs.ReadAs.{ReadAs, TakenAs};

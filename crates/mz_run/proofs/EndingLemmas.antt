@@ -22,13 +22,13 @@ stopped_one act name {old} {new} named fails = subst (λ n. StoppedAt (act ∷ [
 
 -- whatever comes of the refusal's own say, the line was said, or a front of it, or nothing
 says_stopped : (line : List ℕ) {old new : State} (e : ShelfErr) → ActStopped (Say line) old new e → SaysLine line old new
-says_stopped line Failed part = failed part.done part.contents part.counts part.rose
+says_stopped line Failed part = failed part
 says_stopped line Absent h = absurd h
 says_stopped line TooLong h = absurd h
 says_stopped line NoMemory same = unsaid same
 
 pub says_line : {X : Type 0} (line : List ℕ) {old new : State} (r : Result X ShelfErr) → MatchResult r (λ _. DidAct (Say line) old new) (λ e. ActStopped (Say line) old new e) → SaysLine line old new
-says_line line (Ok x) did = said did.contents did.counts
+says_line line (Ok x) did = said did
 says_line line (Err e) stop = says_stopped line e stop
 
 -- each refusal says its line

@@ -59,22 +59,6 @@ pub closing_performed : {X : Type 0} (job : Job) (trails : List RunTrail) (trail
 closing_performed job trails trail old opened between new r one last first second h =
     subst (λ (ts : List RunTrail). Worked job ts old new (status_of r)) (sym one) (closing_ends job trail old between new r (sym last) (DidAll-append first second) h)
 
--- what was only read before counts as nothing done
-nothing_done : {old mid : State} → OnlyRead old mid → DidAll [] old mid
-nothing_done read = record { contents = read.contents; counts = read.counts }
-
-worked_along : (job : Job) (trails : List RunTrail) (old mid new : State) (s : Status) → OnlyRead old mid → Worked job trails mid new s → Worked job trails old new s
-worked_along job trails old mid new Done read h = record { runs = h.runs; acts = DidAll-append (nothing_done read) h.acts }
-worked_along job trails old mid new Words read h = absurd h
-worked_along job trails old mid new (Input fault) read h = absurd h
-worked_along job trails old mid new (ShelfFault name) read h = record { done = h.done; acts = h.acts; stage = h.stage; between = h.between; whole = DidAll-append (nothing_done read) h.whole; stopped = h.stopped }
-worked_along job trails old mid new (Absent name) read h = absurd h
-worked_along job trails old mid new NoMemory read h = StoppedBetween-after (nothing_done read) h
-
-prepared_read : (form : Option (List ℕ)) (chance : ℕ) (old mid : State) (job : Job) → Prepared form chance old mid job → OnlyRead old mid
-prepared_read None chance old mid job h = absurd h
-prepared_read (Some file) chance old mid job h = h.read
-
 -- a job that was prepared and worked at is a whole run of the program
 pub runs_whole : (form : Option (List ℕ)) (chance : ℕ) (old mid new : State) (job : Job) (finished : Finished) → Prepared form chance old mid job → RunsJob job mid new finished → RunsProgram form chance old new finished
 runs_whole form chance old mid new job finished prepared ran = record {
@@ -82,7 +66,7 @@ runs_whole form chance old mid new job finished prepared ran = record {
   ends = rw ran.same_job (record {
     between = mid;
     prepared = prepared;
-    worked = worked_along job finished.trails old mid ran.before finished.status (prepared_read form chance old mid job prepared) ran.worked;
+    worked = ran.worked;
     runs = ran.runs;
   });
   refusal = ran.refusal;
@@ -105,12 +89,12 @@ pub answers_accepted : (form : Option (List ℕ)) (chance : ℕ) (old mid new : 
     → IfSome form (λ file. IfTold old (λ files. IsAnswerTo (asked_of file files).outcome finished.status))
 answers_accepted None chance old mid new job finished prepared ran = absurd prepared
 answers_accepted (Some file) chance old mid new job finished prepared ran =
-    then_told old.contents.files (λ files. (asked_of file files).outcome ≡ Given (project_of job.params job.problem)) _ (λ files e. accepted_answer job finished.trails mid ran.before finished.status ran.worked (asked_of file files).outcome e) prepared.asked
+    then_told old.contents.files (λ files. (asked_of file files).outcome ≡ Given (project_of job.params job.problem)) _ (λ files e. accepted_answer job finished.trails mid ran.before finished.status ran.worked (asked_of file files).outcome e) prepared.input.given
 
 -- the counts never fall
 says_keeps : (line : List ℕ) (old new : State) → SaysLine line old new → KeepsCounts old.counts new.counts
-says_keeps line old new (said contents counts) = counts
-says_keeps line old new (failed n contents counts rose) = counts
+says_keeps line old new (said did) = did.counts
+says_keeps line old new (failed part) = part.counts
 says_keeps line old new (unsaid same) = subst (λ (s : State). KeepsCounts old.counts s.counts) (sym same) (KeepsCounts-refl old.counts)
 
 -- a job's end without a fault that rose
@@ -128,7 +112,7 @@ completes_job job trails old mid before new NoMemory read h says none = tt
 pub completes_accepted : (A : List ℕ → Type 0) (form : Option (List ℕ)) (chance : ℕ) (old mid new : State) (job : Job) (finished : Finished) → Prepared form chance old mid job → RunsJob job mid new finished
     → IfSome form (λ file. A file → NoneRose old new → IsDoneOrNoMemory finished.status)
 completes_accepted A None chance old mid new job finished prepared ran = absurd prepared
-completes_accepted A (Some file) chance old mid new job finished prepared ran = λ _ none. completes_job job finished.trails old mid ran.before new finished.status prepared.read ran.worked ran.refusal none
+completes_accepted A (Some file) chance old mid new job finished prepared ran = λ _ none. completes_job job finished.trails old mid ran.before new finished.status prepared.input.read ran.worked ran.refusal none
 
 -- what a push left where it failed, and where it didn't
 pub still_none : {X : Type 0} (before after : List X) (x : X) (ok : Bool) → before ≡ [] → ok ≡ false → after ≡ cond ok (before ++ x ∷ []) before → after ≡ []

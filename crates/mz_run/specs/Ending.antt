@@ -1,8 +1,9 @@
 -- How a run of the program ends, and what the shelf holds then.
-use Rattle.std.specs.Prelude.{◌≡◌, ℕ, List, [], ◌∷◌, ◌++◌, length, take, Option, Some, None}
-use Rattle.mz_shelf.specs.State.{State, Rose, KeepsCounts}
-use Rattle.mz_shelf.specs.Act.{Act, after}
+use Rattle.std.specs.Prelude.{◌≡◌, ℕ, List, [], ◌∷◌, ◌++◌, length, Option, Some, None}
+use Rattle.mz_shelf.specs.State.{State}
+use Rattle.mz_shelf.specs.Act.{Act}
 use Rattle.mz_shelf.specs.Act.Act.{Say}
+use Rattle.mz_shelf.specs.Shelf.{DidAct, ActFailed}
 use Rattle.mz_shelf.specs.Chain.{DidAll, StoppedAt, StoppedBetween}
 use Rattle.mz_run.specs.declared.status.Status.{Status}
 use Rattle.mz_run.specs.declared.status.Status.TheVariants.{Done, Words, ShelfFault, NoMemory}
@@ -11,18 +12,18 @@ use Rattle.mz_run.specs.declared.trail.RunTrail.{RunTrail}
 use Rattle.mz_run.specs.Acts.{opening_acts, run_acts, closing_acts, acts_of_runs, acts_of}
 use Rattle.mz_run.specs.Job.{seed_of}
 use Rattle.mz_run.specs.Project.{InputStopped, asked_of, project_of}
-use Rattle.mz_project.specs.ReadAs.{IfTold, OnlyRead}
-use Rattle.mz_project.specs.Reads.Outcome.{Given}
+use Rattle.mz_project.specs.GivenFiles.{given_files}
+use Rattle.mz_project.specs.ReadAs.{IfTold, IsGiven, ReadEach}
 use Rattle.mz_run.specs.Refusal.{refusal_line}
 
--- a project was accepted: one worker, no number that it was made from, the random seed of its parameters or the
--- one that was handed in; for told files the problem and the parameters are those that the files ask for
+-- a project was accepted: the problem and the parameters that the files ask for, of which each was read once; one
+-- worker, no number that it was made from, and the random seed of the parameters or the one that was handed in
 pub record IsPrepared (file : List ℕ) (chance : ℕ) (old new : State) (job : Job) : Type 0 where
-  pub read : OnlyRead old new
+  pub input : IsGiven (asked_of file) old new (project_of job.params job.problem)
+  pub files : IfTold old (λ _. ReadEach (file ∷ given_files job.params) old new)
   pub workers : job.workers ≡ 1
   pub generated : job.generated ≡ None
   pub seed : job.seed ≡ seed_of job.params chance
-  pub asked : IfTold old (λ files. (asked_of file files).outcome ≡ Given (project_of job.params job.problem))
 
 -- what comes of the words' file, or of words that name none
 abbrev pub Prepared : Option (List ℕ) → ℕ → State → State → Job → Type 0
@@ -68,8 +69,8 @@ Worked job trails old new status = ⊥
 -- the refusal line was said whole; or a front of it, where the faults rose in its own say; or nothing, for want
 -- of memory
 pub data SaysLine (line : List ℕ) (old new : State) : Type 0 where
-  said : new.contents ≡ after (Say line) old.contents → KeepsCounts old.counts new.counts → SaysLine line old new
-  failed : (n : ℕ) → new.contents ≡ after (Say (take n line)) old.contents → KeepsCounts old.counts new.counts → Rose old.counts.faults new.counts.faults → SaysLine line old new
+  said : DidAct (Say line) old new → SaysLine line old new
+  failed : ActFailed (Say line) old new → SaysLine line old new
   unsaid : new ≡ old → SaysLine line old new
 
 -- what is said of a status: nothing of a good end and of want of memory

@@ -12,11 +12,12 @@ use Rattle.mz_project.specs.Reads.Outcome.{Missing, Refused, Given}
 use Rattle.mz_run.specs.Project.{Project, asked_of}
 use Rattle.mz_run.specs.Trail.{AreTrails}
 
--- with a job: it was accepted, its trails are those of its first runs, and it was worked at
+-- with a job: it was accepted, after nothing but the reads of its files; then it was worked at, and its trails are
+-- those of its first runs
 pub record EndsWithJob (form : Option (List ℕ)) (chance : ℕ) (old new : State) (status : Status) (trails : List RunTrail) (job : Job) : Type 0 where
   pub between : State
   pub prepared : Prepared form chance old between job
-  pub worked : Worked job trails old new status
+  pub worked : Worked job trails between new status
   pub runs : AreTrails job trails
 
 -- without a job: nothing was done, and there are no trails

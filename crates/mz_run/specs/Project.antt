@@ -11,7 +11,7 @@ use Rattle.mz_project.specs.declared.fault.InputFault.TheVariants.{Param}
 use Rattle.mz_project.specs.declared.fault.ReadFault.{ReadFault}
 use Rattle.mz_project.specs.declared.fault.ReadFault.TheVariants as fault
 use Rattle.mz_project.specs.Project.{params_read, project_read}
-use Rattle.mz_project.specs.ReadAs.{IsMissing, IsRefused, IsUnread, OnlyRead}
+use Rattle.mz_project.specs.ReadAs.{IsCutShort, IsMissing, IsRefused, IsUnread}
 use Rattle.mz_project.specs.Reads.{Reads, taken, then_read}
 use Rattle.mz_run.specs.Built.{search_tests, output_tests, first_key}
 use Rattle.mz_run.specs.declared.status.Status.{Status}
@@ -61,5 +61,5 @@ abbrev pub InputStopped : {X : Type 0} → (Files → Reads X) → State → Sta
 InputStopped reads old new (Input f) = IsRefused reads old new f
 InputStopped reads old new (ShelfFault name) = IsUnread reads old new name
 InputStopped reads old new (Absent name) = IsMissing reads old new name
-InputStopped reads old new NoMemory = OnlyRead old new
+InputStopped reads old new NoMemory = IsCutShort reads old new
 InputStopped reads old new status = ⊥

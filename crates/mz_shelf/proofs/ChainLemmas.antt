@@ -30,10 +30,10 @@ after_all-append [] more c = refl
 after_all-append (act ∷ acts) more c = after_all-append acts more (after act c)
 
 pub DidAll-nil : (state : State) → DidAll [] state state
-DidAll-nil state = record { contents = refl; counts = KeepsCounts-refl state.counts }
+DidAll-nil state = record { contents = refl; counts = KeepsCounts-refl state.counts; reads = refl }
 
 pub DidAll-one : {act : Act} {old new : State} → DidAct act old new → DidAll (act ∷ []) old new
-DidAll-one did = record { contents = did.contents; counts = did.counts }
+DidAll-one did = record { contents = did.contents; counts = did.counts; reads = did.reads }
 
 pub DidAll-append : {done rest : List Act} {old between new : State}
     → DidAll done old between → DidAll rest between new → DidAll (done ++ rest) old new
@@ -41,6 +41,7 @@ DidAll-append {done} {rest} {old} {between} {new} early late = record {
   contents =
       late.contents ∙ ap (after_all rest) early.contents ∙ sym (after_all-append done rest old.contents);
   counts = KeepsCounts-trans early.counts late.counts;
+  reads = late.reads ∙ early.reads;
 }
 
 -- a chain that a fault ended
@@ -104,6 +105,7 @@ StoppedBetween-nothing {old} {new} acts e = record {
   count = 0;
   contents = ap (λ (state : State). state.contents) e;
   counts = rw e (KeepsCounts-refl old.counts);
+  reads = ap (λ (state : State). state.reads) e;
 }
 
 pub StoppedBetween-all : {acts : List Act} {old new : State} → DidAll acts old new → StoppedBetween acts old new
@@ -111,6 +113,7 @@ StoppedBetween-all {acts} {old} {new} did = record {
   count = length acts;
   contents = did.contents ∙ ap (λ (done : List Act). after_all done old.contents) (sym (take-length acts));
   counts = did.counts;
+  reads = did.reads;
 }
 
 -- a later part ended after an earlier one was done
@@ -124,6 +127,7 @@ StoppedBetween-after {done} {rest} {old} {between} {new} whole stop = record {
       ∙ sym (after_all-append done (take stop.count rest) old.contents)
       ∙ ap (λ (acts : List Act). after_all acts old.contents) (sym (take-append-add done rest stop.count));
   counts = KeepsCounts-trans whole.counts stop.counts;
+  reads = stop.reads ∙ whole.reads;
 }
 
 take_min-append : (acts more : List Act) (n : ℕ) → take (min n (length acts)) (acts ++ more) ≡ take n acts
@@ -137,4 +141,5 @@ StoppedBetween-before {acts} {old} {new} more stop = record {
   count = min stop.count (length acts);
   contents = stop.contents ∙ ap (λ (done : List Act). after_all done old.contents) (sym (take_min-append acts more stop.count));
   counts = stop.counts;
+  reads = stop.reads;
 }

@@ -1,22 +1,23 @@
 -- A call that fails by its number keeps the promise of a failing call.
-use Rattle.std.proofs.Common.{◌≤◌, refl, arith}
+use Rattle.std.proofs.Common.{ℕ, ◌≤◌, List, refl, arith}
 use Rattle.mz_shelf.specs.Act.{Act}
 use Rattle.mz_shelf.specs.Act.Act.{Say, Write}
 use Rattle.mz_shelf.specs.Shelf.{ReadFailed, ActFailed}
-use Rattle.mz_shelf.specs.Memory.{Failing, state_of, told, held_after, raised, ReadFailedInTurn, FailedInTurn}
+use Rattle.mz_shelf.specs.Memory.{Failing, state_of, told, held_after, held_after_read, raised, ReadFailedInTurn, FailedInTurn}
 use Rattle.mz_shelf.specs.Act.{first}
 
-read_faulted : (old : Failing) → old.faults ≤ raised old.faults
-    → ReadFailed (state_of old) (told (raised old.faults) old.held)
-read_faulted old keeps = record {
+read_faulted : (name : List ℕ) (old : Failing) → old.faults ≤ raised old.faults
+    → ReadFailed name (state_of old) (told (raised old.faults) (held_after_read name old.held))
+read_faulted name old keeps = record {
   contents = refl;
   counts = record { faults = keeps; misses = omega arith; overs = omega arith };
+  reads = refl;
   rose = omega arith;
 }
 
-pub ReadFailed-in_turn : (old new : Failing) → old.faults ≤ new.faults → ReadFailedInTurn old new
-    → ReadFailed (state_of old) (state_of new)
-ReadFailed-in_turn old new keeps turn = rw turn.left (read_faulted old (rw turn.left at keeps))
+pub ReadFailed-in_turn : (name : List ℕ) (old new : Failing) → old.faults ≤ new.faults → ReadFailedInTurn name old new
+    → ReadFailed name (state_of old) (state_of new)
+ReadFailed-in_turn name old new keeps turn = rw turn.left (read_faulted name old (rw turn.left at keeps))
 
 act_faulted : (act : Act) (old : Failing) → old.faults ≤ raised old.faults
     → ActFailed act (state_of old) (told (raised old.faults) (held_after (first old.cut act) old.held))
@@ -24,12 +25,14 @@ act_faulted (Say bytes) old keeps = record {
   done = old.cut;
   contents = refl;
   counts = record { faults = keeps; misses = omega arith; overs = omega arith };
+  reads = refl;
   rose = omega arith;
 }
 act_faulted (Write name bytes) old keeps = record {
   done = old.cut;
   contents = refl;
   counts = record { faults = keeps; misses = omega arith; overs = omega arith };
+  reads = refl;
   rose = omega arith;
 }
 

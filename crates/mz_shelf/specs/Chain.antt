@@ -8,6 +8,7 @@ use Rattle.mz_shelf.specs.Shelf.{ActFailed}
 pub record DidAll (acts : List Act) (old new : State) : Type 0 where
   pub contents : new.contents ≡ after_all acts old.contents
   pub counts : KeepsCounts old.counts new.counts
+  pub reads : new.reads ≡ old.reads
 
 -- some acts were done whole, and the next, on this name, failed after some of its bytes
 pub record StoppedAt (acts : List Act) (name : List ℕ) (old new : State) : Type 0 where
@@ -25,3 +26,4 @@ pub record StoppedBetween (acts : List Act) (old new : State) : Type 0 where
   pub count : ℕ
   pub contents : new.contents ≡ after_all (take count acts) old.contents
   pub counts : KeepsCounts old.counts new.counts
+  pub reads : new.reads ≡ old.reads

@@ -5,9 +5,9 @@ use Rattle.mz_shelf.specs.declared.shelf.ShelfErr.TheVariants.{Failed, Absent, T
 use Rattle.mz_shelf.specs.State.{Counts, State}
 use Rattle.mz_shelf.specs.Memory.{raised}
 
--- neither files nor said bytes are told
+-- neither files nor said bytes nor reads are told
 abbrev pub untold : Counts → State
-untold counts = record { contents = record { files = None; said = None }; counts = counts }
+untold counts = record { contents = record { files = None; said = None }; counts = counts; reads = None }
 
 -- a call that ended so is counted
 abbrev pub counts_after : ShelfErr → Counts → Counts

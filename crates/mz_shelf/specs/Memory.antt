@@ -1,5 +1,5 @@
 -- What a contract sees of the shelves in memory.
-use Rattle.std.specs.Prelude.{◌≡◌, ℕ, ◌+◌, ◌-◌, ◌^◌, ◌==◌, min, Bool, true, false, List, ◌++◌, Some, refl}
+use Rattle.std.specs.Prelude.{◌≡◌, ℕ, ◌+◌, ◌-◌, ◌^◌, ◌==◌, min, Bool, true, false, List, [], ◌∷◌, ◌++◌, Some, refl}
 use Rattle.std.specs.List.{list_any}
 use Rattle.std.specs.FinMap.{insert}
 use Rattle.std.specs.Coded.{Coded, code_by, coded×, coded_ℕ, coded_list}
@@ -10,10 +10,11 @@ use Rattle.mz_shelf.specs.Entries.{files_code}
 use Rattle.mz_shelf.specs.Act.{Act, first}
 use Rattle.mz_shelf.specs.Act.Act.{Say, Write}
 
--- what a shelf holds, and how often a read missed its file and met one that is too long
+-- what a shelf holds, the names that were read, and how often a read missed its file and met one that is too long
 pub record Held : Type 0 where
   pub files : Files
   pub said : List ℕ
+  pub reads : List (List ℕ)
   pub misses : ℕ
   pub overs : ℕ
 
@@ -28,9 +29,9 @@ pub record Failing : Type 0 where
 
 abbrev pub held_code : Coded Held
 held_code =
-    code_by (Files × (List ℕ × (ℕ × ℕ))) (coded× files_code (coded× (coded_list coded_ℕ) (coded× coded_ℕ coded_ℕ)))
-    (λ h. (h.files, (h.said, (h.misses, h.overs))))
-    (λ p. record { files = p.0; said = p.1.0; misses = p.1.1.0; overs = p.1.1.1 })
+    code_by (Files × (List ℕ × (List (List ℕ) × (ℕ × ℕ)))) (coded× files_code (coded× (coded_list coded_ℕ) (coded× (coded_list (coded_list coded_ℕ)) (coded× coded_ℕ coded_ℕ))))
+    (λ h. (h.files, (h.said, (h.reads, (h.misses, h.overs)))))
+    (λ p. record { files = p.0; said = p.1.0; reads = p.1.1.0; misses = p.1.1.1.0; overs = p.1.1.1.1 })
     (λ _. refl)
 
 abbrev pub failing_code : Coded Failing
@@ -40,11 +41,12 @@ failing_code =
     (λ p. record { held = p.0; faults = p.1.0; calls = p.1.1.0; fails = p.1.1.1.0; cut = p.1.1.1.1 })
     (λ _. refl)
 
--- files and said bytes are told
+-- files, said bytes and reads are told
 abbrev pub told : ℕ → Held → State
 told faults held = record {
   contents = record { files = Some held.files; said = Some held.said };
   counts = record { faults = faults; misses = held.misses; overs = held.overs };
+  reads = Some held.reads;
 }
 
 abbrev pub state_of : Failing → State
@@ -58,12 +60,16 @@ abbrev pub held_after : Act → Held → Held
 held_after (Say bytes) held = record held { said = held.said ++ bytes }
 held_after (Write name bytes) held = record held { files = insert held.files name bytes }
 
--- a read counts the missed file, or the one that is too long
-abbrev pub held_after_error : ShelfErr → Held → Held
-held_after_error Failed held = held
-held_after_error Absent held = record held { misses = raised held.misses }
-held_after_error TooLong held = record held { overs = raised held.overs }
-held_after_error NoMemory held = held
+-- a name was read, whatever came of it
+abbrev pub held_after_read : List ℕ → Held → Held
+held_after_read name held = record held { reads = held.reads ++ name ∷ [] }
+
+-- what a read leaves where it gave nothing: it counts the missed file, or the one that is too long
+abbrev pub held_after_error : List ℕ → ShelfErr → Held → Held
+held_after_error name Failed held = held_after_read name held
+held_after_error name Absent held = record (held_after_read name held) { misses = raised held.misses }
+held_after_error name TooLong held = record (held_after_read name held) { overs = raised held.overs }
+held_after_error name NoMemory held = held
 
 -- the next call is one of those that fail
 abbrev pub is_failing : Failing → Bool
@@ -78,25 +84,25 @@ abbrev pub faulted : Failing → Failing
 faulted shelf = record shelf { faults = raised shelf.faults; calls = min (shelf.calls + 1) (2 ^ 128 - 1) }
 
 -- a call that isn't to fail read a file
-pub record ReadInTurn (old new : Failing) : Type 0 where
+pub record ReadInTurn (name : List ℕ) (old new : Failing) : Type 0 where
   pub passes : is_failing old ≡ false
-  pub left : new ≡ called old
+  pub left : new ≡ record (called old) { held = held_after_read name old.held }
 
 -- a call that isn't to fail found no file, or one that is too long
-pub record MissedInTurn (error : ShelfErr) (old new : Failing) : Type 0 where
+pub record MissedInTurn (name : List ℕ) (error : ShelfErr) (old new : Failing) : Type 0 where
   pub passes : is_failing old ≡ false
-  pub left : new ≡ record (called old) { held = held_after_error error old.held }
+  pub left : new ≡ record (called old) { held = held_after_error name error old.held }
 
 -- a call that is to fail read nothing
-pub record ReadFailedInTurn (old new : Failing) : Type 0 where
+pub record ReadFailedInTurn (name : List ℕ) (old new : Failing) : Type 0 where
   pub fails : is_failing old ≡ true
-  pub left : new ≡ faulted old
+  pub left : new ≡ record (faulted old) { held = held_after_read name old.held }
 
-abbrev pub ReadStoppedInTurn : Failing → Failing → ShelfErr → Type 0
-ReadStoppedInTurn old new Failed = ReadFailedInTurn old new
-ReadStoppedInTurn old new Absent = MissedInTurn Absent old new
-ReadStoppedInTurn old new TooLong = MissedInTurn TooLong old new
-ReadStoppedInTurn old new NoMemory = new ≡ old
+abbrev pub ReadStoppedInTurn : List ℕ → Failing → Failing → ShelfErr → Type 0
+ReadStoppedInTurn name old new Failed = ReadFailedInTurn name old new
+ReadStoppedInTurn name old new Absent = MissedInTurn name Absent old new
+ReadStoppedInTurn name old new TooLong = MissedInTurn name TooLong old new
+ReadStoppedInTurn name old new NoMemory = new ≡ old
 
 -- a call that isn't to fail did the act
 pub record DidInTurn (act : Act) (old new : Failing) : Type 0 where

@@ -1,9 +1,9 @@
 -- What a shelf's calls do, each answer with the state that it leaves.
-use Rattle.std.specs.Prelude.{◌≡◌, ◌<◌, ◌≤◌, ℕ, List, length, Some, None, IfSome, IsSomeAnd}
+use Rattle.std.specs.Prelude.{◌≡◌, ◌<◌, ◌≤◌, ℕ, List, [], ◌∷◌, length, Some, None, IfSome, IsSomeAnd}
 use Rattle.std.specs.FinMap.{get}
 use Rattle.mz_shelf.specs.declared.shelf.ShelfErr.{ShelfErr}
 use Rattle.mz_shelf.specs.declared.shelf.ShelfErr.TheVariants.{Failed, Absent, TooLong, NoMemory}
-use Rattle.mz_shelf.specs.State.{State, Files, Rose, KeepsCounts}
+use Rattle.mz_shelf.specs.State.{State, Files, Rose, KeepsCounts, reads_after}
 use Rattle.mz_shelf.specs.Act.{Act, after, first}
 
 -- the most bytes that a file may have to be read
@@ -14,30 +14,34 @@ most_bytes = 268435456
 pub record ReadsFile (name : List ℕ) (old new : State) (bytes : List ℕ) : Type 0 where
   pub contents : new.contents ≡ old.contents
   pub counts : KeepsCounts old.counts new.counts
+  pub reads : new.reads ≡ reads_after (name ∷ []) old.reads
   pub short : length bytes ≤ most_bytes
   pub told : IfSome old.contents.files (λ (files : Files). get files name ≡ Some bytes)
 
 -- a read failed: the device did, or no file has the name, or it has too many bytes
-pub record ReadFailed (old new : State) : Type 0 where
+pub record ReadFailed (name : List ℕ) (old new : State) : Type 0 where
   pub contents : new.contents ≡ old.contents
   pub counts : KeepsCounts old.counts new.counts
+  pub reads : new.reads ≡ reads_after (name ∷ []) old.reads
   pub rose : Rose old.counts.faults new.counts.faults
 
 pub record FoundNoFile (name : List ℕ) (old new : State) : Type 0 where
   pub contents : new.contents ≡ old.contents
   pub counts : KeepsCounts old.counts new.counts
+  pub reads : new.reads ≡ reads_after (name ∷ []) old.reads
   pub rose : Rose old.counts.misses new.counts.misses
   pub told : IfSome old.contents.files (λ (files : Files). get files name ≡ None)
 
 pub record FoundLongFile (name : List ℕ) (old new : State) : Type 0 where
   pub contents : new.contents ≡ old.contents
   pub counts : KeepsCounts old.counts new.counts
+  pub reads : new.reads ≡ reads_after (name ∷ []) old.reads
   pub rose : Rose old.counts.overs new.counts.overs
   pub told : IfSome old.contents.files (λ (files : Files). IsSomeAnd (get files name) (λ bytes. most_bytes < length bytes))
 
 -- why a read gave nothing; after want of memory nothing changed
 abbrev pub ReadStopped : List ℕ → State → State → ShelfErr → Type 0
-ReadStopped name old new Failed = ReadFailed old new
+ReadStopped name old new Failed = ReadFailed name old new
 ReadStopped name old new Absent = FoundNoFile name old new
 ReadStopped name old new TooLong = FoundLongFile name old new
 ReadStopped name old new NoMemory = new ≡ old
@@ -46,12 +50,14 @@ ReadStopped name old new NoMemory = new ≡ old
 pub record DidAct (act : Act) (old new : State) : Type 0 where
   pub contents : new.contents ≡ after act old.contents
   pub counts : KeepsCounts old.counts new.counts
+  pub reads : new.reads ≡ old.reads
 
 -- an act failed after some of its bytes
 pub record ActFailed (act : Act) (old new : State) : Type 0 where
   pub done : ℕ
   pub contents : new.contents ≡ after (first done act) old.contents
   pub counts : KeepsCounts old.counts new.counts
+  pub reads : new.reads ≡ old.reads
   pub rose : Rose old.counts.faults new.counts.faults
 
 -- why an act wasn't done whole; a write or a say is never Absent or TooLong

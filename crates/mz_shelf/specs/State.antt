@@ -1,5 +1,6 @@
 -- What a contract sees of a shelf.
-use Rattle.std.specs.Prelude.{ℕ, ◌+◌, ◌-◌, ◌^◌, ◌≤◌, min, List, Option}
+use Rattle.std.specs.Prelude.{ℕ, ◌+◌, ◌-◌, ◌^◌, ◌≤◌, min, List, ◌++◌, Option}
+use Rattle.std.specs.Option.{option_map}
 use Rattle.std.specs.Ordering.{nat_cmp}
 use Rattle.std.specs.Cmp.Lexicographic.{slice_cmp}
 use Rattle.std.specs.FinMap.{FinMap}
@@ -19,9 +20,18 @@ pub record Counts : Type 0 where
   pub misses : ℕ
   pub overs : ℕ
 
+-- the names that were read, in order; `None` where the shelf doesn't tell
+abbrev pub Names : Type 0
+Names = Option (List (List ℕ))
+
 pub record State : Type 0 where
   pub contents : Contents
   pub counts : Counts
+  pub reads : Names
+
+-- once these were read too, each once and in this order, and no other
+abbrev pub reads_after : List (List ℕ) → Names → Names
+reads_after names reads = option_map (λ earlier. earlier ++ names) reads
 
 -- a count rose where it grew, or stands at the last value of a u64
 abbrev pub Rose : ℕ → ℕ → Type 0

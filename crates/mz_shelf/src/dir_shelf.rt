@@ -1,5 +1,5 @@
 //! Real files below a folder, and standard output.
-ghost use Rattle.std.specs.Prelude.{◌≡◌, ◌≤◌, ◌<◌, ◌^◌, ℕ, length, take, MatchResult, IfOk, IsErrOf, IfSome, OnOk, OnErr, string_bytes};
+ghost use Rattle.std.specs.Prelude.{◌≡◌, ◌≤◌, ◌<◌, ℕ, length, take, IfOk, IsErrOf, IfSome, OnOk, OnErr, string_bytes};
 ghost use Rattle.std.specs.Io.KnownBytes.{Appends};
 ghost use Rattle.mz_shelf.specs.State.{KeepsCounts};
 ghost use Rattle.mz_shelf.specs.Folder.{untold, counts_after, path_of};

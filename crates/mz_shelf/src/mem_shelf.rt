@@ -1,5 +1,5 @@
 //! A shelf in memory whose calls fail where a list says so.
-ghost use Rattle.std.specs.Prelude.{◌≡◌, ◌≤◌, [], MatchResult, IfOk, OnOk, OnErr, take, true, false, IsTrue, ◌↔◌};
+ghost use Rattle.std.specs.Prelude.{◌≡◌, ◌≤◌, [], MatchResult, IfOk, OnOk, OnErr, take, false, IsTrue, ◌↔◌};
 ghost use Rattle.std.specs.Option.{option_copied};
 ghost use Rattle.std.specs.FinMap.{get, empty};
 ghost use Rattle.mz_shelf.specs.Act.Act.{Say, Write};
@@ -8,11 +8,12 @@ ghost use Rattle.mz_shelf.specs.Memory.{Failing, state_of, held_after, is_failin
 
 use crate::safe_shelf::SafeShelf;
 use crate::shelf::{Shelf, ShelfErr};
-use mz_num::NoMemory;
+use mz_num::{NoMemory, Text};
 use std::alloc::Global;
 use std::marker::Model;
 
-/// Files and said bytes in memory, of which it tells both. The calls of `Shelf` are numbered from 0.
+/// Files and said bytes in memory. It tells both, and the names that were read. The calls of `Shelf` are
+/// numbered from 0.
 #[derive(Drop)]
 pub struct MemShelf {
     shelf: SafeShelf,
@@ -45,7 +46,7 @@ impl MemShelf {
     /// fail; such a write or say takes the first `cut` bytes, or all if there are fewer.
     pub fn new(alloc: Global, fails: Vec<u64>, cut: usize) -> Result<MemShelf, NoMemory>
         ensures { IfOk result (λ shelf. shelf ≡ record {
-          held = record { files = empty; said = []; misses = 0; overs = 0 };
+          held = record { files = empty; said = []; reads = []; misses = 0; overs = 0 };
           faults = 0;
           calls = 0;
           fails = fails.items;
@@ -81,6 +82,13 @@ impl MemShelf {
         ensures { result.now ≡ self.now.held.said }
     {
         self.shelf.said()
+    }
+
+    /// The names that were read, in order, whatever came of each read.
+    pub fn reads(&self) -> &[Text]
+        ensures { result.now ≡ self.now.held.reads }
+    {
+        self.shelf.reads()
     }
 
     /// How many calls failed.
@@ -124,10 +132,11 @@ impl Shelf for MemShelf {
             (λ bytes. ReadsFile name.now (state_of self.old) (state_of self.new) bytes.items)
             (λ error. ReadStopped name.now (state_of self.old) (state_of self.new) error) }
         ensures turn { MatchResult result
-            (λ _. ReadInTurn self.old self.new)
-            (λ error. ReadStoppedInTurn self.old self.new error) }
+            (λ _. ReadInTurn name.now self.old self.new)
+            (λ error. ReadStoppedInTurn name.now self.old self.new error) }
     {
         if self.is_failing() {
+            self.shelf.note_read(alloc, name)?;
             self.count_fault();
             return Err(ShelfErr::Failed);
         }

@@ -3,20 +3,21 @@ ghost use Rattle.std.specs.Prelude.{◌≡◌, [], MatchResult, IfOk, OnOk, OnEr
 ghost use Rattle.std.specs.Option.{option_copied};
 ghost use Rattle.std.specs.FinMap.{get, empty};
 ghost use Rattle.mz_shelf.specs.Act.Act.{Say, Write};
-ghost use Rattle.mz_shelf.specs.Memory.{told, held_after, held_after_error};
+ghost use Rattle.mz_shelf.specs.Memory.{told, held_after, held_after_read, held_after_error};
 ghost use Rattle.mz_shelf.specs.Shelf.{ReadsFile, ReadStopped, DidAct, ActStopped};
 
 use crate::file_map::FileMap;
 use crate::shelf::{MOST_BYTES, Shelf, ShelfErr};
-use mz_num::NoMemory;
+use mz_num::{NoMemory, Text};
 use std::alloc::Global;
 use std::marker::Model;
 
-/// Files and said bytes in memory. It tells both, and its faults are always 0.
+/// Files and said bytes in memory. It tells both, and the names that were read; its faults are always 0.
 #[derive(Drop)]
 pub struct SafeShelf {
     files: FileMap,
     said: Vec<u8>,
+    reads: Vec<Text>,
     misses: u64,
     overs: u64,
 }
@@ -31,6 +32,7 @@ impl Model for SafeShelf {
     ghost view = { λ a. record {
       files = a.files;
       said = a.said.items;
+      reads = a.reads.items;
       misses = a.misses;
       overs = a.overs;
     } };
@@ -39,11 +41,12 @@ impl Model for SafeShelf {
 impl SafeShelf {
     /// A shelf without files, to which nothing was said.
     pub fn new(alloc: Global) -> Result<SafeShelf, NoMemory>
-        ensures { IfOk result (λ shelf. shelf ≡ record { files = empty; said = []; misses = 0; overs = 0 }) }
+        ensures { IfOk result (λ shelf. shelf ≡ record { files = empty; said = []; reads = []; misses = 0; overs = 0 }) }
     {
         Ok(SafeShelf {
             files: FileMap::new(alloc),
             said: Vec::new(alloc),
+            reads: Vec::new(alloc),
             misses: 0,
             overs: 0,
         })
@@ -71,12 +74,29 @@ impl SafeShelf {
         self.said.as_slice()
     }
 
+    /// The names that were read, in order, whatever came of each read.
+    pub fn reads(&self) -> &[Text]
+        ensures { result.now ≡ self.now.reads }
+    {
+        self.reads.as_slice()
+    }
+
     /// Says bytes.
     pub(crate) fn append(&mut self, bytes: &[u8]) -> Result<(), NoMemory>
         ensures ok { OnOk result (self.new ≡ held_after (Say bytes.now) self.old) }
         ensures err { OnErr result (self.new ≡ self.old) }
     {
         self.said.extend_from_slice(bytes)?;
+        Ok(())
+    }
+
+    /// Notes that a file of that name was read, whatever comes of it.
+    pub(crate) fn note_read(&mut self, alloc: Global, name: &str) -> Result<(), NoMemory>
+        ensures ok { OnOk result (self.new ≡ held_after_read name.now self.old) }
+        ensures err { OnErr result (self.new ≡ self.old) }
+    {
+        let name = Text::new(String::from_str(alloc, name)?);
+        self.reads.push(name)?;
         Ok(())
     }
 }
@@ -89,19 +109,25 @@ impl Shelf for SafeShelf {
             (λ bytes. ReadsFile name.now (told 0 self.old) (told 0 self.new) bytes.items)
             (λ error. ReadStopped name.now (told 0 self.old) (told 0 self.new) error) }
         ensures left { MatchResult result
-            (λ _. self.new ≡ self.old)
-            (λ error. self.new ≡ held_after_error error self.old) }
+            (λ _. self.new ≡ held_after_read name.now self.old)
+            (λ error. self.new ≡ held_after_error name.now error self.old) }
     {
         match self.files.get(name) {
             None => {
+                self.note_read(alloc, name)?;
                 self.misses = self.misses.saturating_add(1);
                 Err(ShelfErr::Absent)
             }
             Some(bytes) if bytes.len() > MOST_BYTES => {
+                self.note_read(alloc, name)?;
                 self.overs = self.overs.saturating_add(1);
                 Err(ShelfErr::TooLong)
             }
-            Some(bytes) => Ok(Vec::from_slice(alloc, bytes)?),
+            Some(bytes) => {
+                let bytes = Vec::from_slice(alloc, bytes)?;
+                self.note_read(alloc, name)?;
+                Ok(bytes)
+            }
         }
     }
 

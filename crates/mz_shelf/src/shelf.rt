@@ -2,7 +2,6 @@
 ghost use Rattle.std.specs.Prelude.{◌≡◌, MatchResult};
 ghost use Rattle.mz_shelf.specs.declared.shelf.ShelfErr.TheVariants.{NoMemory};
 ghost use Rattle.mz_shelf.specs.State.{State};
-ghost use Rattle.mz_shelf.specs.Act.{Act};
 ghost use Rattle.mz_shelf.specs.Act.Act.{Say, Write};
 ghost use Rattle.mz_shelf.specs.Shelf.{ReadsFile, ReadStopped, DidAct, ActStopped};
 
@@ -46,8 +45,9 @@ impl From<AllocError> for ShelfErr {
     }
 }
 
-/// Named files and said bytes. A shelf may tell what it holds, or tell nothing of it; no call changes
-/// whether it does. Its counts of faults, of missed files and of files that are too long never fall.
+/// Named files and said bytes. A shelf may tell what it holds and which names were read, or tell nothing
+/// of it; no call changes whether it does. Its counts of faults, of missed files and of files that are too
+/// long never fall. A write or a say reads nothing.
 pub trait Shelf {
     ghost state: { Self → State };
 

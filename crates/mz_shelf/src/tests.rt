@@ -1,5 +1,6 @@
 //! The shelves as a caller meets them, with memory enough.
 use crate::{DirShelf, MemShelf, SafeShelf, Shelf, ShelfErr};
+use mz_num::Text;
 use std::fs;
 use std::rt::Files;
 use std::test::Fail;
@@ -18,6 +19,11 @@ fn gave(read: Result<Vec<u8>, ShelfErr>, bytes: &[u8]) -> bool {
         Ok(read) => read.as_slice() == bytes,
         Err(_) => false,
     }
+}
+
+/// Whether these names were read, in this order.
+fn were_read(reads: &[Text], names: &[&str]) -> bool {
+    reads.iter().map(Text::as_str).eq(names.iter().copied())
 }
 
 /// What a caller that knows only the trait reads back.
@@ -43,6 +49,7 @@ fn a_safe_shelf_keeps_files_and_said_bytes(rt: HostRuntime) -> Result<(), Fail> 
     assert!(rt; is_file(shelf.file("b.csv"), b"other"));
     assert!(rt; shelf.file("c.csv").is_none());
     assert!(rt; shelf.said() == b"written\n".as_slice());
+    assert!(rt; were_read(shelf.reads(), &["a.csv"]));
     Ok(())
 }
 
@@ -81,6 +88,7 @@ fn a_failing_read_reads_nothing(rt: HostRuntime) -> Result<(), Fail> {
     assert!(rt; shelf.read_file(alloc, "a.csv").err() == Some(ShelfErr::Failed));
     assert!(rt; gave(shelf.read_file(alloc, "a.csv"), b"bytes"));
     assert_eq!(rt; shelf.faults(), 1);
+    assert!(rt; were_read(shelf.reads(), &["b.csv", "a.csv", "a.csv"]));
     Ok(())
 }
 

@@ -1,6 +1,11 @@
 use Rattle.std.proofs.lemmas.Result.{err_from_is_err_and}
-use Rattle.mz_project.proofs.AreaLemmas.{costs_stop, units_stop, multipliers_stop, area_given}
+use Rattle.mz_project.proofs.AreaLemmas.{zones_stop, costs_stop, units_stop, multipliers_stop, area_given}
 use Rattle.mz_project.proofs.area.read_area.Goals as goal
+
+pub returns-in_err-zones-clause-read : goal.returns-in_err-zones-clause-read
+returns-in_err-zones-clause-read g c =
+    let p = err_from_is_err_and c.from_residual.result c.from_residual.ensures.1 in
+    rw (p.1, p.2) (zones_stop _ _ _ _ c.in_err-zones.ensures.read)
 
 pub returns-in_err-costs-clause-read : goal.returns-in_err-costs-clause-read
 returns-in_err-costs-clause-read g c =

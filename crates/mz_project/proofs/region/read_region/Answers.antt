@@ -1,6 +1,11 @@
 use Rattle.std.proofs.lemmas.Result.{err_from_is_err_and}
-use Rattle.mz_project.proofs.RegionLemmas.{allowed_stop, boundaries_stop, region_given, targets_stop}
+use Rattle.mz_project.proofs.RegionLemmas.{area_stop, allowed_stop, boundaries_stop, region_given, targets_stop}
 use Rattle.mz_project.proofs.region.read_region.Goals as goal
+
+pub returns-in_err-area-clause-read : goal.returns-in_err-area-clause-read
+returns-in_err-area-clause-read g c =
+    let p = err_from_is_err_and c.from_residual.result c.from_residual.ensures.1 in
+    rw (p.1, p.2) (area_stop _ _ _ _ c.in_err-area.ensures.read)
 
 pub returns-in_err-targets-clause-read : goal.returns-in_err-targets-clause-read
 returns-in_err-targets-clause-read g c =

@@ -1,6 +1,11 @@
 use Rattle.std.proofs.lemmas.Result.{err_from_is_err_and}
-use Rattle.mz_project.proofs.TargetReadLemmas.{amounts_stop, fractions_stop, targets_given, zone_targets_stop}
+use Rattle.mz_project.proofs.TargetReadLemmas.{features_stop, amounts_stop, fractions_stop, targets_given, zone_targets_stop}
 use Rattle.mz_project.proofs.targets.read_targets.Goals as goal
+
+pub returns-in_err-features-clause-read : goal.returns-in_err-features-clause-read
+returns-in_err-features-clause-read g c =
+    let p = err_from_is_err_and c.from_residual.result c.from_residual.ensures.1 in
+    rw (p.1, p.2) (features_stop _ _ _ _ _ c.in_err-features.ensures.read)
 
 pub returns-in_err-amounts-clause-read : goal.returns-in_err-amounts-clause-read
 returns-in_err-amounts-clause-read g c =

@@ -1,0 +1,12 @@
+use Rattle.std.proofs.Common.{[]}
+use Rattle.mz_targets.specs.Wanted.{zone_target_columns}
+use Rattle.mz_targets.specs.ZoneTargets.{zone_targets_of}
+use Rattle.mz_project.specs.declared.fault.Which.TheVariants.{ZoneTargets}
+use Rattle.mz_project.proofs.ReadLemmas.{given_rows}
+use Rattle.mz_project.proofs.targets.zone_targets.Goals as goal
+
+pub returns-in_ok-table-in-Some-clause-read : goal.returns-in_ok-table-in-Some-clause-read
+returns-in_ok-table-in-Some-clause-read g c =
+    given_rows c.args.params.now.input_dir c.as_str-folder.result.now c.in-Some.name c.as_str-name.result.now c.args.params.now.zone_targets ZoneTargets zone_target_columns c.in_ok-wants-in-Some.wants
+    [] (zone_targets_of c.args.area.now.zones.ids c.args.features.now.ids) c.in_ok-table-in-Some.table _ _ _
+    c.as_str-folder.ensures c.as_str-name.ensures c.in_ok-wants-in-Some.ensures c.in-Some.is c.in_ok-table-in-Some.ensures.read c.zone_targets_in.ensures.taken
