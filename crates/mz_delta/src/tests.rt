@@ -300,3 +300,12 @@ fn a_reading_without_a_plan_is_judged(rt: HostRuntime) -> Result<(), Fail> {
     assert_eq!(rt; said.map_or(1, |said| said.4), 0);
     Ok(())
 }
+
+#[test]
+fn a_filled_list_is_what_it_was_made_of(rt: HostRuntime) -> Result<(), Fail> {
+    let made = Filled::new(vec![in rt.alloc(); 3u8, 5]?);
+    assert!(rt; made.as_slice() == [3, 5].as_slice());
+    let items = made.into_vec();
+    assert!(rt; items.as_slice() == [3, 5].as_slice());
+    Ok(())
+}
