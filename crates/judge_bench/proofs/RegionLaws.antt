@@ -13,10 +13,11 @@ use Rattle.mz_model.specs.declared.parts.Parts.{Parts}
 use Rattle.mz_model.specs.Amounts.{amount_of, holder_of, holders_of, total_of}
 use Rattle.mz_model.specs.Boundary.{greatest_rate, IsLength}
 use Rattle.mz_model.specs.Parts.{unit_count, zone_count, feature_count, cost_at, fraction_at, rate_at, target_at}
-use Rattle.mz_model.specs.Places.{greatest_below, list_below, values_at}
+use Rattle.mz_num.specs.Places.{greatest_below, list_below, values_at}
 use Rattle.mz_model.specs.Targets.{amount_for, gain_of}
-use Rattle.mz_model.specs.Valid.{AreDistinct, IsInShape, IsSmall, IsValid, IsWithinLimits, IsZoneSet}
-use Rattle.mz_model.proofs.PlaceLaws.{get_or-list_below, greatest_below-le, length-list_below, length-values_at, sum_below-le, values_at-All}
+use Rattle.mz_num.specs.ZoneSet.{IsZoneSet}
+use Rattle.mz_model.specs.Valid.{AreDistinct, IsInShape, IsSmall, IsValid, IsWithinLimits}
+use Rattle.mz_num.proofs.PlaceLaws.{get_or-list_below, greatest_below-le, length-list_below, length-values_at, sum_below-le, values_at-All}
 use Rattle.mz_model.proofs.TargetLaws.{gain_from-overall, gain_of-is}
 use Rattle.judge_bench.specs.Region.{AreRows, AreTargets, three_rates}
 

@@ -3,7 +3,8 @@ use Rattle.std.specs.Prelude.{◌≡◌, ℕ, ◌<◌, ◌≤◌, ◌^◌, List,
 use Rattle.std.specs.List.{All, AllPairs}
 use Rattle.mz_model.specs.declared.parts.Target.{Target}
 use Rattle.mz_model.specs.Parts.{no_target}
-use Rattle.mz_model.specs.Valid.{IsBefore, IsOverallRow}
+use Rattle.mz_num.specs.Order.{IsBefore}
+use Rattle.mz_model.specs.Valid.{IsOverallRow}
 
 -- at most so many rows of two places and a value above 0, in order
 pub record AreRows (most firsts seconds : ℕ) (rows : List (ℕ × ℕ × ℕ)) : Type 0 where

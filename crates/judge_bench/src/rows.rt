@@ -1,7 +1,7 @@
 //! The lists of a region, each with what makes it one of a problem.
 ghost use Rattle.std.specs.Prelude.{◌≡◌, ℕ, ◌*◌, ◌<◌, ◌≤◌, ◌^◌, IfOk, length, nat_lt, replicate};
 ghost use Rattle.std.specs.List.{All, list_all};
-ghost use Rattle.mz_model.specs.Places.{list_below};
+ghost use Rattle.mz_num.specs.Places.{list_below};
 ghost use Rattle.judge_bench.specs.Region.{AreRows, AreTargets};
 
 use crate::fault::Fault;

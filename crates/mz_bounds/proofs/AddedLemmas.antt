@@ -11,7 +11,7 @@ use Rattle.std.proofs.lemmas.List.Folds.{list_any-append, list_any_at, list_any_
 use Rattle.std.proofs.lemmas.List.Quantifiers.{all_pairs_push}
 use Rattle.std.proofs.lemmas.List.Sorted.{list_any-IsPermutation, sum_by-IsPermutation}
 use Rattle.std.proofs.lemmas.List.Sums.{sum_by-cons, sum_by_push, sum_by-le}
-use Rattle.mz_rows.specs.Pairs.{IsBefore}
+use Rattle.mz_num.specs.Order.{IsBefore}
 use Rattle.mz_bounds.specs.Bounds.{AreAdded, Edge, added_length, joins, length_for}
 use Rattle.mz_bounds.specs.Pairs.{names}
 use Rattle.mz_bounds.specs.declared.pair.PairRow.{PairRow}

@@ -7,10 +7,10 @@ use Rattle.std.proofs.lemmas.List.Folds.{Any-from_list_any, list_any_at}
 use Rattle.mz_tables.specs.Table.{Row}
 use Rattle.mz_tables.specs.declared.fault.RowFault.{RowFault}
 use Rattle.mz_rows.specs.Answer.{IsFaultOf}
-use Rattle.mz_rows.specs.Keyed.{list_below}
+use Rattle.mz_num.specs.Places.{list_below}
 use Rattle.mz_rows.specs.Rows.{go_on}
 use Rattle.mz_rows.proofs.AnswerLemmas.{fault-on}
-use Rattle.mz_rows.proofs.KeyedLemmas.{get_or-list_below, length-list_below}
+use Rattle.mz_num.proofs.PlaceLaws.{length-list_below, get_or-list_below}
 use Rattle.mz_rows.proofs.PairListLemmas.{pairs_below-are}
 use Rattle.mz_bounds.specs.Bounds.{AreAdded, AreFitBounds, Edge, added_length, bound_rows, bounds_from, bounds_of, edges_of, joins}
 use Rattle.mz_bounds.specs.Pairs.{names}

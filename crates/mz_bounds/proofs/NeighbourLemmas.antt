@@ -13,7 +13,7 @@ use Rattle.std.proofs.lemmas.Bool.{cases_eq, cases_lt, false≢true}
 use Rattle.std.proofs.lemmas.List.{get_or_default, length_push, take_all, take_more}
 use Rattle.std.proofs.lemmas.List.Elements.{All-nil, All-push, All-set, All-take}
 use Rattle.std.proofs.lemmas.Option.{slice_get-get_or}
-use Rattle.mz_rows.specs.Pairs.{IsBefore}
+use Rattle.mz_num.specs.Order.{IsBefore}
 use Rattle.mz_bounds.specs.Bounds.{AreAdded, Edge, added_length, ends_with, joins_pair, pair_order}
 use Rattle.mz_bounds.specs.declared.pair.PairRow.{PairRow}
 use Rattle.mz_bounds.proofs.AddedLemmas.{added-last, added-le, added-new, added-skip, both_are, both_true}

@@ -4,8 +4,8 @@ use Rattle.std.specs.List.{All}
 use Rattle.std.proofs.Math.ListN.{replicate}
 use Rattle.std.proofs.lemmas.List.{take_all, take_more}
 use Rattle.std.proofs.lemmas.List.Elements.{All-take}
-use Rattle.mz_rows.specs.Keyed.{list_below}
-use Rattle.mz_rows.proofs.KeyedLemmas.{get_or-list_below, length-list_below, list_below-from, list_below-same, list_below-set}
+use Rattle.mz_num.specs.Places.{list_below}
+use Rattle.mz_num.proofs.PlaceLaws.{length-list_below, get_or-list_below, list_below-from, list_below-set, replicate-list_below}
 use Rattle.mz_bounds.specs.Bounds.{added_length}
 use Rattle.mz_bounds.specs.declared.pair.PairRow.{PairRow}
 use Rattle.mz_bounds.proofs.AddedLemmas.{added-le, added-other, added-same, apart_pair, both_true, other_pair}
@@ -15,7 +15,7 @@ abbrev pub AreOuterSoFar : ℕ → List PairRow → ℕ → List ℕ → Type 0
 AreOuterSoFar units rows i outer = outer ≡ list_below units (λ unit. added_length (take i rows) unit unit)
 
 pub outer-none : (units : ℕ) (rows : List PairRow) (outer : List ℕ) → outer ≡ replicate units 0 → AreOuterSoFar units rows 0 outer
-outer-none units rows outer e = e ∙ list_below-same units (λ unit. added_length [] unit unit) 0 0 (λ k h. refl)
+outer-none units rows outer e = e ∙ replicate-list_below units (λ unit. added_length [] unit unit) 0 0 (λ k h. refl)
 
 -- a row of two units adds to no outer length
 pub outer-skip : (units : ℕ) (rows : List PairRow) (i : ℕ) (outer : List ℕ) (d : PairRow) → AreOuterSoFar units rows i outer → i < length rows → ((get_or rows i d).low ≡ (get_or rows i d).high → ⊥) → AreOuterSoFar units rows (i + 1) outer

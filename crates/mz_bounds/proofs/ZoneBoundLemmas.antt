@@ -12,7 +12,7 @@ use Rattle.mz_tables.specs.Table.{Row}
 use Rattle.mz_tables.specs.declared.fault.RowFault.{RowFault}
 use Rattle.mz_tables.specs.declared.fault.RowFault.TheVariants.{Repeated}
 use Rattle.mz_rows.specs.Rows.{RowReader, go_on, line_behind}
-use Rattle.mz_rows.proofs.KeyedLemmas.{list_below-from}
+use Rattle.mz_num.proofs.PlaceLaws.{list_below-from}
 use Rattle.mz_rows.proofs.PairLemmas.{first-below, pair-below, pair-first, pair-second, pair-whole, second-below}
 use Rattle.mz_rows.proofs.RowLemmas.{HasRead, by_line, by_line-is, has_read-all, has_read-fault, has_read-more, has_read-none}
 use Rattle.mz_bounds.specs.Pairs.{names, zone_bound_in}

@@ -3,8 +3,9 @@ use Rattle.std.specs.Prelude.{ℕ, ◌+◌, ◌-◌, slice_get, Option, Some, No
 use Rattle.std.specs.List.{All, AllPairs, list_any, sum_by}
 use Rattle.mz_tables.specs.Table.{Row}
 use Rattle.mz_tables.specs.declared.fault.RowFault.{RowFault}
-use Rattle.mz_rows.specs.Keyed.{list_below}
-use Rattle.mz_rows.specs.Pairs.{IsBefore, pairs_below}
+use Rattle.mz_num.specs.Places.{list_below}
+use Rattle.mz_num.specs.Order.{IsBefore}
+use Rattle.mz_rows.specs.Pairs.{pairs_below}
 use Rattle.mz_rows.specs.Rows.{at_most, go_on, items_of, line_behind}
 use Rattle.mz_bounds.specs.Pairs.{bound_in, names}
 use Rattle.mz_bounds.specs.declared.bounds.Bounds.{Bounds}

@@ -4,7 +4,7 @@ use Rattle.std.specs.List.{All, find}
 use Rattle.mz_tables.specs.Table.{Row}
 use Rattle.mz_tables.specs.declared.fault.RowFault.{RowFault}
 use Rattle.mz_tables.specs.declared.fault.RowFault.TheVariants.{Repeated}
-use Rattle.mz_rows.specs.Keyed.{list_below}
+use Rattle.mz_num.specs.Places.{list_below}
 use Rattle.mz_rows.specs.Rows.{RowReader, go_on, items_of, line_behind}
 use Rattle.mz_bounds.specs.Pairs.{names, zone_bound_in}
 use Rattle.mz_bounds.specs.declared.pair.PairRow.{PairRow}

@@ -1,7 +1,7 @@
 //! The outer length of each unit: what the rows add that name it twice.
 ghost use Rattle.std.specs.Prelude.{◌≡◌, ◌<◌, ◌≤◌, ◌^◌, length, IfOk};
 ghost use Rattle.std.specs.List.{All};
-ghost use Rattle.mz_rows.specs.Keyed.{list_below};
+ghost use Rattle.mz_num.specs.Places.{list_below};
 ghost use Rattle.mz_bounds.specs.Bounds.{added_length};
 
 use crate::pair::PairRow;

@@ -5,13 +5,13 @@ use Rattle.std.proofs.lemmas.List.Elements.{All-get_or}
 use Rattle.mz_model.specs.declared.parts.Parts.{Parts}
 use Rattle.mz_model.specs.Boundary.{edge_term_of, neighbours_of}
 use Rattle.mz_model.specs.Parts.{unit_count, zone_count, outer_at}
-use Rattle.mz_model.specs.Places.{list_below, sum_below}
+use Rattle.mz_num.specs.Places.{list_below, sum_below}
 use Rattle.mz_model.specs.Scores.{penalty_term_of}
 use Rattle.mz_model.specs.Targets.{gain_from, gain_of, touched_rows, touches_of}
 use Rattle.mz_model.specs.Valid.{IsValid}
 use Rattle.mz_model.specs.Zones.{is_allowed}
 use Rattle.mz_model.proofs.NeighbourLaws.{neighbours_of-in_range}
-use Rattle.mz_model.proofs.PlaceLaws.{length-list_below, list_below-more}
+use Rattle.mz_num.proofs.PlaceLaws.{length-list_below, list_below-more}
 use Rattle.mz_model.proofs.TouchLaws.{gain_from-touch, gain_of-touched-le, get_or-touches_of, length-touches_of}
 use Rattle.mz_model.proofs.ZoneLaws.{is_allowed-in_range}
 use Rattle.mz_delta.specs.declared.reading.Reading.{Reading}

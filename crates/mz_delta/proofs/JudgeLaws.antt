@@ -8,13 +8,13 @@ use Rattle.std.proofs.lemmas.List.Elements.{All-get_or}
 use Rattle.mz_model.specs.declared.parts.Parts.{Parts}
 use Rattle.mz_model.specs.Boundary.{edge_term_of, neighbours_of}
 use Rattle.mz_model.specs.Parts.{cost_at, outer_at}
-use Rattle.mz_model.specs.Places.{sum_below}
+use Rattle.mz_num.specs.Places.{sum_below}
 use Rattle.mz_model.specs.Plans.{IsLegalPlan}
 use Rattle.mz_model.specs.Scores.{boundary_of_plan, cost_of_plan, penalty_of_plan, penalty_term_of}
 use Rattle.mz_model.specs.Targets.{gain_of, held_of, touched_rows}
 use Rattle.mz_model.specs.Valid.{IsValid}
 use Rattle.mz_model.specs.Zones.{is_allowed}
-use Rattle.mz_model.proofs.PlaceLaws.{list_below-from, sum_below-same}
+use Rattle.mz_num.proofs.PlaceLaws.{list_below-from, sum_below-same}
 use Rattle.mz_model.proofs.ScoreLaws.{boundary_of_plan-is}
 use Rattle.mz_delta.specs.declared.judged.Judged.{Judged}
 use Rattle.mz_delta.specs.declared.reading.Reading.{Reading}

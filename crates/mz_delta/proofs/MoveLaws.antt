@@ -7,14 +7,14 @@ use Rattle.mz_num.specs.Round.{round}
 use Rattle.mz_model.specs.declared.parts.Parts.{Parts}
 use Rattle.mz_model.specs.Boundary.{edge_term_of, neighbours_of}
 use Rattle.mz_model.specs.Parts.{unit_count, zone_count, cost_at, outer_at}
-use Rattle.mz_model.specs.Places.{sum_below}
+use Rattle.mz_num.specs.Places.{sum_below}
 use Rattle.mz_model.specs.Plans.{IsLegalPlan}
 use Rattle.mz_model.specs.Scores.{cost_of_plan, pair_term, outer_term}
 use Rattle.mz_model.specs.Targets.{gain_of, held_of}
 use Rattle.mz_model.specs.Valid.{IsValid}
 use Rattle.mz_model.specs.Zones.{is_allowed}
 use Rattle.mz_model.proofs.LimitLaws.{edge_term_of-is}
-use Rattle.mz_model.proofs.PlaceLaws.{sum_below-change}
+use Rattle.mz_num.proofs.PlaceLaws.{sum_below-change}
 use Rattle.mz_model.proofs.ScoreLaws.{cost_of_plan-is, outer_term-is, plan-in_range}
 use Rattle.mz_delta.specs.Move.{moved}
 use Rattle.mz_delta.proofs.PairLaws.{pairs_moved, near_by}

@@ -7,9 +7,9 @@ use Rattle.std.proofs.lemmas.List.Sums.{sum_by-append, sum_by-cons}
 use Rattle.mz_model.specs.declared.parts.Parts.{Parts}
 use Rattle.mz_model.specs.Boundary.{ends_of, neighbours_of}
 use Rattle.mz_model.specs.Parts.{unit_count}
-use Rattle.mz_model.specs.Places.{values_at}
+use Rattle.mz_num.specs.Places.{values_at}
 use Rattle.mz_model.specs.Valid.{IsPair, IsValid}
-use Rattle.mz_model.proofs.PlaceLaws.{values_at-append}
+use Rattle.mz_num.proofs.PlaceLaws.{values_at-append}
 
 -- what a pair adds to a sum, by the zones of its two units
 abbrev pub pair_by : (ℕ → ℕ → ℕ → ℕ) → (ℕ → ℕ) → ℕ × ℕ × ℕ → ℕ

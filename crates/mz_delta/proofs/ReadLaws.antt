@@ -7,13 +7,13 @@ use Rattle.std.proofs.lemmas.List.Elements.{All-get_or, All-head, All-map, All-t
 use Rattle.mz_model.specs.declared.parts.Parts.{Parts}
 use Rattle.mz_model.specs.Boundary.{neighbours_of}
 use Rattle.mz_model.specs.Parts.{unit_count, row_count}
-use Rattle.mz_model.specs.Places.{list_below}
+use Rattle.mz_num.specs.Places.{list_below}
 use Rattle.mz_model.specs.Plans.{IsLegalPlan}
 use Rattle.mz_model.specs.Targets.{amount_for, held_of, touched_rows, touches_of}
 use Rattle.mz_model.specs.Valid.{IsValid}
 use Rattle.mz_model.specs.Zones.{is_allowed}
 use Rattle.mz_model.proofs.NeighbourLaws.{neighbours_of-in_range}
-use Rattle.mz_model.proofs.PlaceLaws.{get_or-list_below, length-list_below, list_below-more}
+use Rattle.mz_num.proofs.PlaceLaws.{get_or-list_below, length-list_below, list_below-more}
 use Rattle.mz_model.proofs.ScoreLaws.{plan-in_range}
 use Rattle.mz_model.proofs.TargetLaws.{held_of-le}
 use Rattle.mz_model.proofs.TouchLaws.{touched_rows-in_range}

@@ -4,7 +4,7 @@ use Rattle.mz_model.specs.declared.parts.Parts.{Parts}
 use Rattle.mz_model.specs.Boundary.{neighbours_of}
 use Rattle.mz_model.specs.Parts.{unit_count}
 use Rattle.mz_model.specs.Targets.{touched_rows}
-use Rattle.mz_model.proofs.PlaceLaws.{at-le-greatest_below}
+use Rattle.mz_num.proofs.PlaceLaws.{at-le-greatest_below}
 use Rattle.mz_delta.specs.Rooms.{greatest_degree, greatest_touched}
 
 pub degree-le : (parts : Parts) (unit : ℕ) → unit < unit_count parts → length (neighbours_of parts unit) ≤ greatest_degree parts

@@ -5,13 +5,13 @@ use Rattle.std.specs.List.{sum_by}
 use Rattle.std.proofs.lemmas.Bool.{ltb-false}
 use Rattle.mz_model.specs.declared.parts.Parts.{Parts}
 use Rattle.mz_model.specs.Parts.{unit_count, zone_count, row_count}
-use Rattle.mz_model.specs.Places.{greatest_below}
+use Rattle.mz_num.specs.Places.{greatest_below}
 use Rattle.mz_model.specs.Plans.{IsLegalPlan}
 use Rattle.mz_model.specs.Scores.{penalty_of_plan, penalty_term_of}
 use Rattle.mz_model.specs.Targets.{gain_of, held_of, is_touched, touched_rows}
 use Rattle.mz_model.specs.Valid.{IsValid}
 use Rattle.mz_model.specs.Zones.{is_allowed}
-use Rattle.mz_model.proofs.PlaceLaws.{at-le-greatest_below}
+use Rattle.mz_num.proofs.PlaceLaws.{at-le-greatest_below}
 use Rattle.mz_model.proofs.ScoreLaws.{penalty_of_plan-is, plan-in_range}
 use Rattle.mz_model.proofs.ZoneLaws.{is_allowed-in_range}
 use Rattle.mz_delta.specs.Move.{moved}

@@ -4,8 +4,8 @@ use Rattle.std.specs.List.{sum_by}
 use Rattle.std.proofs.lemmas.Bool.{cond-true, cond-false}
 use Rattle.std.proofs.lemmas.List.{append-nil, take_all}
 use Rattle.std.proofs.lemmas.List.Sums.{sum_by_more, sum_by_push}
-use Rattle.mz_model.specs.Places.{sum_below, places_below}
-use Rattle.mz_model.proofs.PlaceLaws.{places_below-more}
+use Rattle.mz_num.specs.Places.{sum_below, places_below}
+use Rattle.mz_num.proofs.PlaceLaws.{places_below-more}
 
 -- the sum over the front of a list, place by place
 sum_by-take : {X : Type 0} (f : X → ℕ) (xs : List X) (d : X) (n : ℕ) → n ≤ length xs → sum_by f (take n xs) ≡ sum_below n (λ i. f (get_or xs i d))

@@ -3,4 +3,3 @@ pub mod Judged
 pub mod Move
 pub mod Reading
 pub mod Rooms
-pub mod WithRoom

@@ -3,7 +3,7 @@ use Rattle.std.specs.Prelude.{ℕ, ◌+◌, ◌-◌, List, length, slice_index, 
 use Rattle.mz_model.specs.declared.parts.Parts.{Parts}
 use Rattle.mz_model.specs.Boundary.{edge_term_of, neighbours_of}
 use Rattle.mz_model.specs.Parts.{outer_at}
-use Rattle.mz_model.specs.Places.{list_below, sum_below}
+use Rattle.mz_num.specs.Places.{list_below, sum_below}
 use Rattle.mz_model.specs.Scores.{penalty_term_of}
 use Rattle.mz_model.specs.Targets.{gain_of, touched_rows}
 use Rattle.mz_delta.specs.declared.reading.Reading.{Reading}

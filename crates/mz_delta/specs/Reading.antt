@@ -4,7 +4,7 @@ use Rattle.std.specs.List.{All}
 use Rattle.mz_model.specs.declared.parts.Parts.{Parts}
 use Rattle.mz_model.specs.Boundary.{neighbours_of}
 use Rattle.mz_model.specs.Parts.{unit_count, row_count}
-use Rattle.mz_model.specs.Places.{list_below}
+use Rattle.mz_num.specs.Places.{list_below}
 use Rattle.mz_model.specs.Targets.{held_of, touched_rows}
 use Rattle.mz_model.specs.Zones.{is_allowed}
 use Rattle.mz_delta.specs.declared.reading.Reading.{Reading}

@@ -3,7 +3,7 @@ use Rattle.std.specs.Prelude.{ℕ, ◌≤◌, length}
 use Rattle.mz_model.specs.declared.parts.Parts.{Parts}
 use Rattle.mz_model.specs.Boundary.{neighbours_of}
 use Rattle.mz_model.specs.Parts.{unit_count}
-use Rattle.mz_model.specs.Places.{greatest_below}
+use Rattle.mz_num.specs.Places.{greatest_below}
 use Rattle.mz_model.specs.Targets.{touched_rows}
 use Rattle.mz_delta.specs.declared.judged.Judged.{Judged}
 use Rattle.mz_delta.specs.declared.reading.Reading.{Reading}

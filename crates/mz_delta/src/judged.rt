@@ -1,5 +1,5 @@
 //! What comes of a move that was judged.
-use crate::filled::Filled;
+use mz_num::Filled;
 
 /// A move of one unit, and by how much it changes a score, in ten-thousandths.
 #[derive(Debug, Drop)]

@@ -5,7 +5,6 @@
 #![tactic(auto)]
 
 mod difference;
-mod filled;
 mod judged;
 mod judging;
 mod neighbourhood;
@@ -13,7 +12,7 @@ mod reading;
 mod reads;
 mod rooms;
 
-pub use filled::Filled;
+pub use mz_num::Filled;
 pub use judged::Judged;
 pub use judging::{judge, judge_zone};
 pub use reading::Reading;

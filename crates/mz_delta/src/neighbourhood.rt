@@ -9,9 +9,9 @@ ghost use Rattle.mz_delta.specs.Reading.{IsWellFormed};
 ghost use Rattle.mz_delta.specs.Rooms.{greatest_touched};
 
 use crate::difference::difference;
-use crate::filled::Filled;
 use crate::reading::Reading;
 use mz_model::Problem;
+use mz_num::Filled;
 
 /// By how much the boundary round a reading's unit changes where the unit gets the zone: the terms
 /// of its pairs, each from this side alone, and of its outer length.

@@ -1,5 +1,5 @@
 //! What a worker reads of a plan before it judges a move of one unit.
-use crate::filled::Filled;
+use mz_num::Filled;
 
 /// The values of a unit's items: its zone, its neighbours' zones, and what is held for the target
 /// rows that it touches.

@@ -8,10 +8,9 @@ ghost use Rattle.mz_model.specs.Valid.{IsValid};
 ghost use Rattle.mz_delta.specs.Reading.{Reads, totals_of_plan, zones_around};
 ghost use Rattle.mz_delta.specs.Rooms.{FitsReading, greatest_degree, greatest_touched};
 
-use crate::filled::Filled;
 use crate::reading::Reading;
 use mz_model::{Plan, Problem, held};
-use mz_num::NoMemory;
+use mz_num::{Filled, NoMemory};
 use std::alloc::Global;
 
 /// What a plan holds for each target row, in ten-thousandths.

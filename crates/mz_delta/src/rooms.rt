@@ -4,11 +4,10 @@ ghost use Rattle.mz_delta.specs.Judged.{IsRight};
 ghost use Rattle.mz_delta.specs.Move.{moved_totals};
 ghost use Rattle.mz_delta.specs.Rooms.{FitsJudged, FitsReading, greatest_degree, greatest_touched};
 
-use crate::filled::Filled;
 use crate::judged::Judged;
 use crate::reading::Reading;
 use mz_model::Problem;
-use mz_num::NoMemory;
+use mz_num::{Filled, NoMemory};
 use std::alloc::Global;
 
 impl Reading {

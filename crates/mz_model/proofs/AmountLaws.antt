@@ -5,9 +5,10 @@ use Rattle.std.proofs.lemmas.Bool.{cases_Bool, eqb-true, eq-eqb, ne_eqb, cond-tr
 use Rattle.std.proofs.lemmas.List.Elements.{All-head, All-tail, All-weaker, All-map}
 use Rattle.std.proofs.lemmas.List.Sums.{sum_by-cons}
 use Rattle.mz_model.specs.Amounts.{amount_of, holder_of, holders_of}
-use Rattle.mz_model.specs.Places.{sum_below, values_at}
-use Rattle.mz_model.specs.Valid.{IsBefore, IsAmount}
-use Rattle.mz_model.proofs.PlaceLaws.{sum_below-same, sum_below-change, values_at-All}
+use Rattle.mz_num.specs.Places.{sum_below, values_at}
+use Rattle.mz_num.specs.Order.{IsBefore}
+use Rattle.mz_model.specs.Valid.{IsAmount}
+use Rattle.mz_num.proofs.PlaceLaws.{sum_below-same, sum_below-change, values_at-All}
 
 -- the rows behind the first are in order
 pub AllPairs-tail : {X : Type 0} (R : X → X → Type 0) (x : X) (xs : List X) → AllPairs R (x ∷ xs) → AllPairs R xs

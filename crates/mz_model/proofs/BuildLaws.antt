@@ -16,12 +16,12 @@ use Rattle.mz_model.specs.Boundary.{ends_of, neighbours_of}
 use Rattle.mz_model.specs.Built.{greatest_part_in, greatest_part_of, touching}
 use Rattle.mz_model.specs.Groups.{filled}
 use Rattle.mz_model.specs.Parts.{unit_count, zone_count, feature_count, row_count, fraction_at, no_target, target_at}
-use Rattle.mz_model.specs.Places.{greatest_below, list_below, places_below, values_at}
+use Rattle.mz_num.specs.Places.{greatest_below, list_below, places_below, values_at}
 use Rattle.mz_model.specs.Targets.{counted, gain_from, gain_of, amount_for, is_touched, touched_rows, touches_of}
 use Rattle.mz_model.specs.Valid.{IsPair, IsValid}
 use Rattle.mz_model.proofs.AmountLaws.{values_at-entries_of}
 use Rattle.mz_model.proofs.ListLaws.{IsRow, table-row}
-use Rattle.mz_model.proofs.PlaceLaws.{length-list_below, get_or-list_below, list_below-from, list_below-same, places_below-more, values_at-append, at-le-greatest_below, greatest_below-le}
+use Rattle.mz_num.proofs.PlaceLaws.{length-list_below, get_or-list_below, list_below-from, list_below-same, places_below-more, values_at-append, at-le-greatest_below, greatest_below-le}
 use Rattle.mz_model.proofs.Products.{round-positive}
 
 -- ---- lists that are filled

@@ -11,9 +11,11 @@ use Rattle.mz_model.specs.declared.parts.Target.{Target}
 use Rattle.mz_model.specs.Amounts.{total_of}
 use Rattle.mz_model.specs.Boundary.{greatest_rate, IsLength}
 use Rattle.mz_model.specs.Parts.{unit_count, zone_count, feature_count, row_count, cost_at, rate_at, target_at}
-use Rattle.mz_model.specs.Places.{sum_below, greatest_below}
+use Rattle.mz_num.specs.Places.{sum_below, greatest_below}
 use Rattle.mz_model.specs.Targets.{gain_of}
-use Rattle.mz_model.specs.Valid.{AreDistinct, IsAmount, IsBefore, IsInShape, IsOverallRow, IsPair, IsSmall, IsValid, IsWithinLimits, IsZoneRow, IsZoneSet}
+use Rattle.mz_num.specs.Order.{IsBefore}
+use Rattle.mz_num.specs.ZoneSet.{IsZoneSet}
+use Rattle.mz_model.specs.Valid.{AreDistinct, IsAmount, IsInShape, IsOverallRow, IsPair, IsSmall, IsValid, IsWithinLimits, IsZoneRow}
 
 -- each place below n passes
 abbrev pub all_below : ℕ → (ℕ → Bool) → Bool

@@ -3,9 +3,9 @@ use Rattle.std.proofs.Common.{◌≡◌, ℕ, zero, suc, ◌+◌, ◌-◌, ◌<�
 use Rattle.std.proofs.lemmas.Bool.{cases_lt}
 use Rattle.std.specs.List.{slice_range}
 use Rattle.std.proofs.lemmas.List.{get_or_append_left, get_or_at, take-append-le, drop-append-le, drop_at, take_all}
-use Rattle.mz_model.specs.Places.{list_below}
+use Rattle.mz_num.specs.Places.{list_below}
 use Rattle.mz_model.specs.Groups.{groups_of, IsCut}
-use Rattle.mz_model.proofs.PlaceLaws.{length-list_below, get_or-list_below, list_below-more, list_below-same}
+use Rattle.mz_num.proofs.PlaceLaws.{length-list_below, get_or-list_below, list_below-more, list_below-same}
 
 cut_le_by : (m : ℕ) (starts : List ℕ) (n k : ℕ) → IsCut starts n → k + m + 1 ≡ length starts → get_or starts k 0 ≤ n
 cut_le_by zero starts n k cut at = let e : k ≡ length starts - 1 = omega arith in let last : get_or starts k 0 ≡ get_or starts (length starts - 1) 0 = ap (λ i. get_or starts i 0) e in omega (arith, cut.last)

@@ -6,7 +6,6 @@ pub mod GroupLaws
 pub mod LimitLaws
 pub mod ListLaws
 pub mod NeighbourLaws
-pub mod PlaceLaws
 pub mod Products
 pub mod ScoreLaws
 pub mod TargetLaws

@@ -9,10 +9,10 @@ use Rattle.mz_num.proofs.RoundLaws.{round-mono}
 use Rattle.mz_model.specs.declared.parts.Parts.{Parts}
 use Rattle.mz_model.specs.Boundary.{edge_term_of, greatest_rate, IsLength}
 use Rattle.mz_model.specs.Parts.{unit_count, zone_count, row_count, cost_at, rate_at, outer_at}
-use Rattle.mz_model.specs.Places.{sum_below, greatest_below}
+use Rattle.mz_num.specs.Places.{sum_below, greatest_below}
 use Rattle.mz_model.specs.Targets.{gain_of}
 use Rattle.mz_model.specs.Valid.{IsValid}
-use Rattle.mz_model.proofs.PlaceLaws.{at-le-sum_below, at-le-greatest_below}
+use Rattle.mz_num.proofs.PlaceLaws.{at-le-sum_below, at-le-greatest_below}
 
 -- where a zone's entry for another zone stands
 pub square_place : (zones k l : ℕ) → k < zones → l < zones → k * zones + l < zones * zones

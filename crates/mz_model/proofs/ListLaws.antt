@@ -1,8 +1,8 @@
 -- Laws of lists by place that are filled in any order, and of a table of lists.
 use Rattle.std.proofs.Common.{◌≡◌, ℕ, ◌+◌, ◌<◌, List, [], ◌∷◌, ◌++◌, length, get_or, set, map, ap, sym, ◌∙◌, arith}
 use Rattle.std.proofs.lemmas.List.{length-map, map_push, map-set, get_or-map}
-use Rattle.mz_model.specs.Places.{list_below}
-use Rattle.mz_model.proofs.PlaceLaws.{length-list_below, get_or-list_below, list_below-more}
+use Rattle.mz_num.specs.Places.{list_below}
+use Rattle.mz_num.proofs.PlaceLaws.{length-list_below, get_or-list_below, list_below-more}
 
 -- one more empty list
 pub empty_more : {V X : Type 0} (f : V → List X) (xs xs' : List V) (y : V) (n : ℕ) → map f xs ≡ list_below {X = List X} n (λ k. []) → xs' ≡ xs ++ y ∷ [] → f y ≡ [] → map f xs' ≡ list_below {X = List X} (n + 1) (λ k. [])

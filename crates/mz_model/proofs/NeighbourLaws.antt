@@ -6,7 +6,7 @@ use Rattle.mz_model.specs.declared.parts.Parts.{Parts}
 use Rattle.mz_model.specs.Boundary.{ends_of, neighbours_of, IsLength}
 use Rattle.mz_model.specs.Parts.{unit_count}
 use Rattle.mz_model.specs.Valid.{IsValid, IsPair}
-use Rattle.mz_model.proofs.PlaceLaws.{values_at-All, length-values_at}
+use Rattle.mz_num.proofs.PlaceLaws.{values_at-All, length-values_at}
 
 -- what holds of both ends of each pair holds of all ends
 ends_of-All : (P : ℕ × (ℕ × ℕ) → Type 0) (edges : List (ℕ × ℕ × ℕ)) → All (λ e. P (e.0, (e.1, e.2)) × P (e.1, (e.0, e.2))) edges → All P (flat_map ends_of edges)

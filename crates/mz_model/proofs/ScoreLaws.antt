@@ -7,13 +7,13 @@ use Rattle.mz_model.specs.declared.parts.Parts.{Parts}
 use Rattle.mz_model.specs.declared.score.Score.{Score}
 use Rattle.mz_model.specs.Boundary.{edge_term_of, IsLength}
 use Rattle.mz_model.specs.Parts.{unit_count, zone_count, row_count, cost_at, outer_at}
-use Rattle.mz_model.specs.Places.{sum_below}
+use Rattle.mz_num.specs.Places.{sum_below}
 use Rattle.mz_model.specs.Plans.{IsLegalPlan}
 use Rattle.mz_model.specs.Scores.{cost_of_plan, pair_term, outer_term, boundary_of_plan, penalty_term_of, penalty_of_plan, score_of_plan}
 use Rattle.mz_model.specs.Targets.{held_of}
 use Rattle.mz_model.specs.Valid.{IsPair, IsValid}
 use Rattle.mz_model.proofs.LimitLaws.{cost_at-le, edge_term_of-le, outer_at-length}
-use Rattle.mz_model.proofs.PlaceLaws.{sum_below-le}
+use Rattle.mz_num.proofs.PlaceLaws.{sum_below-le}
 use Rattle.mz_model.proofs.TargetLaws.{penalty_term_of-le}
 use Rattle.mz_model.proofs.ZoneLaws.{is_allowed-in_range}
 

@@ -11,12 +11,12 @@ use Rattle.mz_model.specs.declared.parts.Parts.{Parts}
 use Rattle.mz_model.specs.declared.parts.Target.{Target}
 use Rattle.mz_model.specs.Amounts.{holders_of}
 use Rattle.mz_model.specs.Parts.{unit_count, zone_count, feature_count, row_count, fraction_at, target_at}
-use Rattle.mz_model.specs.Places.{sum_below, greatest_below}
+use Rattle.mz_num.specs.Places.{sum_below, greatest_below}
 use Rattle.mz_model.specs.Scores.{penalty_term_of}
 use Rattle.mz_model.specs.Targets.{counted, gain_from, amount_for, gain_of, held_of, shortfall_of}
 use Rattle.mz_model.specs.Valid.{IsValid, IsAmount}
 use Rattle.mz_model.proofs.AmountLaws.{sum_by-holders_of}
-use Rattle.mz_model.proofs.PlaceLaws.{sum_below-mono, at-le-greatest_below}
+use Rattle.mz_num.proofs.PlaceLaws.{sum_below-mono, at-le-greatest_below}
 use Rattle.mz_model.proofs.Products.{part-le}
 
 -- ---- gains

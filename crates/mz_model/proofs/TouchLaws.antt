@@ -11,12 +11,12 @@ use Rattle.std.proofs.lemmas.List.{length-map, get_or-map, get_or_default}
 use Rattle.std.proofs.lemmas.List.Elements.{All-map, All-get_or}
 use Rattle.mz_model.specs.declared.parts.Parts.{Parts}
 use Rattle.mz_model.specs.Parts.{unit_count, zone_count, row_count}
-use Rattle.mz_model.specs.Places.{greatest_below}
+use Rattle.mz_num.specs.Places.{greatest_below}
 use Rattle.mz_model.specs.Targets.{amount_for, gain_from, gain_of, is_touched, touched_rows, touches_of}
 use Rattle.mz_model.specs.Valid.{IsValid}
 use Rattle.mz_model.proofs.LimitLaws.{gain_of-le}
 use Rattle.mz_model.proofs.TargetLaws.{gain_of-is}
-use Rattle.mz_model.proofs.PlaceLaws.{length-places_below, places_below-in_range, places_below-has, places_below-rising, at-le-greatest_below}
+use Rattle.mz_num.proofs.PlaceLaws.{length-places_below, places_below-in_range, places_below-has, places_below-rising, at-le-greatest_below}
 
 pub touched_rows-in_range : (parts : Parts) (unit : ℕ) → All (λ row. row < row_count parts) (touched_rows parts unit)
 unfolding touched_rows

@@ -10,10 +10,11 @@ use Rattle.std.proofs.lemmas.Nat.{mod_below}
 use Rattle.std.proofs.lemmas.Nat.Bits.{bit_at_above}
 use Rattle.mz_model.specs.declared.parts.Parts.{Parts}
 use Rattle.mz_model.specs.Parts.{unit_count, zone_count}
-use Rattle.mz_model.specs.Places.{places_below}
-use Rattle.mz_model.specs.Valid.{IsValid, IsZoneSet}
+use Rattle.mz_num.specs.Places.{places_below}
+use Rattle.mz_num.specs.ZoneSet.{IsZoneSet}
+use Rattle.mz_model.specs.Valid.{IsValid}
 use Rattle.mz_model.specs.Zones.{is_allowed, allowed_zones, is_free, free_units, counts_of, round_from, step_of}
-use Rattle.mz_model.proofs.PlaceLaws.{length-places_below, places_below-pass, places_below-in_range, places_below-has, position_or_len-Contains}
+use Rattle.mz_num.proofs.PlaceLaws.{length-places_below, places_below-pass, places_below-in_range, places_below-has, position_or_len-Contains}
 
 -- a zone of the set is a zone of the problem
 pub zone-in_range : (zones set zone : ℕ) → IsZoneSet zones set → bit_at set zone ≡ 1 → zone < zones

@@ -1,7 +1,7 @@
 -- Amounts of features in units, as rows (unit, feature, amount).
 use Rattle.std.specs.Prelude.{ℕ, cond, List, [], ◌∷◌, map, ◌==◌, ◌&&◌}
 use Rattle.std.specs.List.{sum_by}
-use Rattle.mz_model.specs.Places.{values_at}
+use Rattle.mz_num.specs.Places.{values_at}
 
 -- the amount of a feature in a unit: that of their row, and 0 where they have none
 abbrev pub amount_of : List (ℕ × ℕ × ℕ) → ℕ → ℕ → ℕ

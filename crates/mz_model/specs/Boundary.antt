@@ -4,7 +4,7 @@ use Rattle.std.specs.List.{flat_map}
 use Rattle.mz_num.specs.Round.{round}
 use Rattle.mz_model.specs.declared.parts.Parts.{Parts}
 use Rattle.mz_model.specs.Parts.{rate_at}
-use Rattle.mz_model.specs.Places.{greatest_below, values_at}
+use Rattle.mz_num.specs.Places.{greatest_below, values_at}
 
 -- the term of a boundary of that length between two zones
 unfoldable pub edge_term_of : Parts → ℕ → ℕ → ℕ → ℕ

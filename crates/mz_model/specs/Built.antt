@@ -6,7 +6,7 @@ use Rattle.mz_model.specs.declared.parts.Target.{Target}
 use Rattle.mz_model.specs.Amounts.{holders_of}
 use Rattle.mz_model.specs.Boundary.{neighbours_of}
 use Rattle.mz_model.specs.Parts.{unit_count, zone_count, feature_count, fraction_at}
-use Rattle.mz_model.specs.Places.{list_below, greatest_below}
+use Rattle.mz_num.specs.Places.{list_below, greatest_below}
 use Rattle.mz_model.specs.Targets.{touches_of}
 use Rattle.mz_model.specs.Valid.{IsValid}
 use Rattle.mz_model.specs.Zones.{allowed_zones, free_units, counts_of}

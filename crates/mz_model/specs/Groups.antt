@@ -1,6 +1,6 @@
 -- Many lists in one: where each starts among the items.
 use Rattle.std.specs.Prelude.{◌≡◌, ℕ, ◌+◌, ◌-◌, ◌<◌, ◌≤◌, List, [], ◌++◌, length, slice_index, slice_index_or, slice_range}
-use Rattle.mz_model.specs.Places.{list_below, values_at}
+use Rattle.mz_num.specs.Places.{list_below, values_at}
 
 -- the lists: each from its start up to the next one's
 abbrev pub groups_of : {X : Type 0} → List ℕ → List X → List (List X)

@@ -5,7 +5,6 @@ pub mod Examples
 pub mod Groups
 pub mod Items
 pub mod Parts
-pub mod Places
 pub mod Plans
 pub mod Scores
 pub mod Targets

@@ -6,7 +6,7 @@ use Rattle.mz_model.specs.declared.parts.Parts.{Parts}
 use Rattle.mz_model.specs.declared.score.Score.{Score}
 use Rattle.mz_model.specs.Boundary.{edge_term_of}
 use Rattle.mz_model.specs.Parts.{unit_count, row_count, cost_at, outer_at, target_at}
-use Rattle.mz_model.specs.Places.{sum_below}
+use Rattle.mz_num.specs.Places.{sum_below}
 use Rattle.mz_model.specs.Targets.{held_of, shortfall_of}
 
 -- the cost of a plan: the terms of all units in their zones

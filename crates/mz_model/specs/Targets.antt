@@ -4,7 +4,7 @@ use Rattle.mz_num.specs.Round.{round}
 use Rattle.mz_model.specs.declared.parts.Parts.{Parts}
 use Rattle.mz_model.specs.Amounts.{amount_of}
 use Rattle.mz_model.specs.Parts.{unit_count, zone_count, row_count, fraction_at, target_at}
-use Rattle.mz_model.specs.Places.{sum_below, greatest_below, places_below}
+use Rattle.mz_num.specs.Places.{sum_below, greatest_below, places_below}
 
 -- what an amount in a zone counts: for an overall row, which has no zone, the rounded part of it that the
 -- fraction says; for a zone row all of it in the row's zone, and nothing elsewhere

@@ -6,7 +6,9 @@ use Rattle.mz_model.specs.declared.parts.Target.{Target}
 use Rattle.mz_model.specs.Amounts.{total_of}
 use Rattle.mz_model.specs.Boundary.{IsLength}
 use Rattle.mz_model.specs.Parts.{unit_count, zone_count, feature_count, row_count, cost_at, rate_at, target_at}
-use Rattle.mz_model.specs.Places.{sum_below, greatest_below}
+use Rattle.mz_num.specs.Order.{IsBefore}
+use Rattle.mz_num.specs.Places.{sum_below, greatest_below}
+use Rattle.mz_num.specs.ZoneSet.{IsZoneSet}
 use Rattle.mz_model.specs.Targets.{gain_of}
 
 -- the numbers of things
@@ -21,15 +23,6 @@ pub record IsSmall (parts : Parts) : Type 0 where
 -- no number stands twice in the list
 abbrev pub AreDistinct : List ℕ → Type 0
 AreDistinct ids = AllPairs (λ a b. a ≢ b) ids
-
--- rows go by their first number, and those with the same one by their second
-abbrev pub IsBefore : ℕ × ℕ × ℕ → ℕ × ℕ × ℕ → Type 0
-IsBefore a b = (a.0 < b.0) ⊎ ((a.0 ≡ b.0) × (a.1 < b.1))
-
--- a set of zones that isn't empty, as a number whose bits are the zones
-pub record IsZoneSet (zones set : ℕ) : Type 0 where
-  pub some_zone : 0 < set
-  pub in_range : set < 2 ^ zones
 
 -- a pair of units by place, the lesser one first
 pub record IsPair (units : ℕ) (edge : ℕ × ℕ × ℕ) : Type 0 where

@@ -4,7 +4,7 @@ use Rattle.std.specs.List.{position_or_len}
 use Rattle.std.specs.Int.{bit_at}
 use Rattle.mz_model.specs.declared.parts.Parts.{Parts}
 use Rattle.mz_model.specs.Parts.{unit_count, zone_count}
-use Rattle.mz_model.specs.Places.{places_below}
+use Rattle.mz_num.specs.Places.{places_below}
 
 -- whether a unit may have a zone: the zone's bit is set in the unit's set
 abbrev pub is_allowed : Parts → ℕ → ℕ → Bool

@@ -2,7 +2,7 @@
 ghost use Rattle.std.specs.Prelude.{◌≡◌, ◌<◌, IfOk};
 ghost use Rattle.std.specs.List.{All};
 ghost use Rattle.mz_model.specs.Amounts.{holders_of};
-ghost use Rattle.mz_model.specs.Places.{list_below};
+ghost use Rattle.mz_num.specs.Places.{list_below};
 
 use crate::groups::Groups;
 use crate::lists::Lists;

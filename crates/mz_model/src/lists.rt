@@ -1,6 +1,6 @@
 //! Lists by place while they are filled in any order.
 ghost use Rattle.std.specs.Prelude.{◌≡◌, ◌<◌, ◌++◌, ◌∷◌, [], IfOk, length, slice_index_or, slice_set};
-ghost use Rattle.mz_model.specs.Places.{list_below};
+ghost use Rattle.mz_num.specs.Places.{list_below};
 
 use crate::groups::Groups;
 use mz_num::NoMemory;

@@ -7,7 +7,8 @@ ghost use Rattle.mz_model.specs.Boundary.{IsLength, edge_term_of, neighbours_of}
 ghost use Rattle.mz_model.specs.Parts.{unit_count, zone_count, feature_count, row_count, cost_at, fraction_at, outer_at, rate_at, target_at};
 ghost use Rattle.mz_model.specs.Targets.{gain_from, gain_of, touched_rows, touches_of};
 ghost use Rattle.mz_model.specs.Scores.{penalty_term_of};
-ghost use Rattle.mz_model.specs.Valid.{IsPair, IsValid, IsZoneSet};
+ghost use Rattle.mz_num.specs.ZoneSet.{IsZoneSet};
+ghost use Rattle.mz_model.specs.Valid.{IsPair, IsValid};
 ghost use Rattle.mz_model.specs.Zones.{is_allowed, free_units, counts_of, step_of};
 
 use crate::groups::Groups;

@@ -2,7 +2,7 @@
 ghost use Rattle.std.specs.Prelude.{◌≡◌, ◌*◌, ◌<◌, ◌≤◌, ◌^◌};
 ghost use Rattle.std.specs.List.{sum_by};
 ghost use Rattle.mz_model.specs.Parts.{unit_count, row_count};
-ghost use Rattle.mz_model.specs.Places.{sum_below};
+ghost use Rattle.mz_num.specs.Places.{sum_below};
 ghost use Rattle.mz_model.specs.Plans.{IsLegalPlan};
 ghost use Rattle.mz_model.specs.Scores.{cost_of_plan, outer_term, pair_term, penalty_of_plan, score_of_plan};
 ghost use Rattle.mz_model.specs.Targets.{held_of, shortfall_of};

@@ -1,3 +1,4 @@
 pub mod RoundLaws
 pub mod DigitLemmas
+pub mod PlaceLaws
 pub mod ScaleLemmas

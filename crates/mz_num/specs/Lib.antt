@@ -1,5 +1,10 @@
 pub mod Blank
 pub mod Decimal
 pub mod Digits
+pub mod Limits
 pub mod NumberText
+pub mod Order
+pub mod Places
 pub mod Round
+pub mod WithRoom
+pub mod ZoneSet

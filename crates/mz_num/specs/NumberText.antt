@@ -3,6 +3,7 @@ use Rattle.std.specs.Prelude.{ℕ, ◌+◌, ◌*◌, ◌^◌, Bool, true, false,
 use Rattle.std.specs.List.{before_first, after_first, position_or_len}
 use Rattle.mz_num.specs.Blank.{trimmed}
 use Rattle.mz_num.specs.Digits.{digits_number}
+use Rattle.mz_num.specs.Limits.{greatest_quantity}
 use Rattle.mz_num.specs.Round.{round}
 use Rattle.mz_num.specs.declared.fault.NumFault.{NumFault}
 use Rattle.mz_num.specs.declared.fault.NumFault.TheVariants.{Empty, NotANumber, Negative, TooLarge}
@@ -74,7 +75,7 @@ unsigned_value minus magnitude value = (if minus && nat_lt 0 magnitude then Err 
 -- the value of a text at a scale, or its first fault
 abbrev pub scaled_answer : ℕ → Option Number → Result ℕ NumFault
 scaled_answer scale None = Err NotANumber
-scaled_answer scale (Some n) = unsigned_value n.negative n.mantissa (at_most (10 ^ 18) (scaled_value scale n))
+scaled_answer scale (Some n) = unsigned_value n.negative n.mantissa (at_most greatest_quantity (scaled_value scale n))
 
 abbrev pub scaled_in : ℕ → List ℕ → Result ℕ NumFault
 scaled_in scale [] = Err Empty

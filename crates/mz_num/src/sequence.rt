@@ -1,8 +1,9 @@
 //! A `Vec` seen as its list and a `String` seen as its bytes, for the public fields that a
 //! contract compares with a definition.
-ghost use Rattle.std.specs.Prelude.{◌≡◌, ◌<◌, ◌^◌, length};
-ghost use Rattle.std.specs.Prelude.{string_bytes};
+ghost use Rattle.std.specs.Prelude.{◌≡◌, ◌<◌, ◌^◌, IfOk, length, string_bytes};
 
+use crate::memory::NoMemory;
+use std::alloc::Global;
 use std::marker::Model;
 
 /// A sequence that contracts see as a list. It is made of a `Vec` and given back as one without memory.
@@ -65,6 +66,15 @@ impl Text {
         ensures { result ≡ string_bytes text }
     {
         Text { text }
+    }
+
+    /// A text of its own with the bytes of another.
+    pub fn copy_of(alloc: Global, text: &str) -> Result<Text, NoMemory>
+        ensures { IfOk result (λ copy. copy ≡ text.now) }
+    {
+        Ok(Text {
+            text: String::from_str(alloc, text)?,
+        })
     }
 
     pub fn as_str(&self) -> &str

@@ -6,9 +6,9 @@ use Rattle.std.proofs.lemmas.Bool.{cond-true, eq-eqb}
 use Rattle.std.proofs.lemmas.List.{length-map}
 use Rattle.std.proofs.lemmas.List.Sums.{sum_by-cons}
 use Rattle.mz_model.specs.Amounts.{holder_of, holders_of, total_of}
-use Rattle.mz_model.specs.Places.{list_below}
+use Rattle.mz_num.specs.Places.{list_below}
 use Rattle.mz_model.proofs.AmountLaws.{holders_of-cons}
-use Rattle.mz_model.proofs.PlaceLaws.{get_or-list_below, length-list_below, length-values_at, list_below-more, list_below-same}
+use Rattle.mz_num.proofs.PlaceLaws.{get_or-list_below, length-list_below, length-values_at, list_below-more, list_below-same}
 use Rattle.mz_targets.specs.Amounts.{IsAmount}
 use Rattle.mz_project.specs.declared.limits.amounts.Holdings.{Holdings}
 use Rattle.mz_project.specs.declared.targets.Targets.{Targets}

@@ -3,8 +3,8 @@ use Rattle.std.proofs.Common.{◌≡◌, ℕ, ◌+◌, ◌*◌, ◌/◌, ◌%◌
 use Rattle.std.specs.Prelude.{◌==◌}
 use Rattle.std.specs.List.{All}
 use Rattle.mz_bounds.specs.ZoneBounds.{AreZoneBounds}
-use Rattle.mz_model.specs.Places.{list_below}
-use Rattle.mz_model.proofs.PlaceLaws.{get_or-list_below, length-list_below, list_below-more}
+use Rattle.mz_num.specs.Places.{list_below}
+use Rattle.mz_num.proofs.PlaceLaws.{get_or-list_below, length-list_below, list_below-more}
 use Rattle.mz_rows.proofs.KeyedLemmas.{eqb-sym}
 use Rattle.mz_rows.proofs.PairLemmas.{pair-below, pair-first, pair-second}
 use Rattle.mz_project.specs.Boundaries.{default_boundary_cost, default_boundary_costs}

@@ -3,8 +3,8 @@ use Rattle.std.proofs.Common.{◌≡◌, ℕ, zero, suc, ◌+◌, ◌*◌, ◌/�
 use Rattle.std.specs.Prelude.{slice_index}
 use Rattle.std.specs.List.{sum}
 use Rattle.std.proofs.lemmas.Bool.{lt-ltb, le-ltb, ltb-false, ltb-true}
-use Rattle.mz_model.specs.Places.{sum_below, greatest_below}
-use Rattle.mz_model.proofs.PlaceLaws.{list_below-from, sum_below-same, at-le-sum_below, at-le-greatest_below}
+use Rattle.mz_num.specs.Places.{sum_below, greatest_below}
+use Rattle.mz_num.proofs.PlaceLaws.{list_below-from, sum_below-same, at-le-sum_below, at-le-greatest_below}
 use Rattle.mz_units.specs.Terms.{AreCostTerms, HasCosts}
 use Rattle.mz_project.specs.declared.area.Area.{Area}
 use Rattle.mz_project.specs.Fits.{FitsArea}

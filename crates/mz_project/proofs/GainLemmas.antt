@@ -10,11 +10,11 @@ use Rattle.std.proofs.Math.Nat.{mul-le-mul_left, mul-zero, zero-mul}
 use Rattle.mz_num.specs.Round.{round}
 use Rattle.mz_num.proofs.RoundLaws.{round-le, round-mono, round-multiple}
 use Rattle.mz_model.specs.Amounts.{amount_of, holders_of, total_of}
-use Rattle.mz_model.specs.Places.{greatest_below, list_below, sum_below}
+use Rattle.mz_num.specs.Places.{greatest_below, list_below, sum_below}
 use Rattle.mz_model.proofs.AmountLaws.{sum_by-holders_of}
-use Rattle.mz_model.proofs.PlaceLaws.{get_or-list_below, greatest_below-le, length-list_below, sum_below-mono, sum_below-same}
+use Rattle.mz_num.proofs.PlaceLaws.{get_or-list_below, greatest_below-le, length-list_below, sum_below-mono, sum_below-same}
 use Rattle.mz_rows.proofs.PairLemmas.{pair-below}
-use Rattle.mz_rows.specs.Pairs.{IsBefore}
+use Rattle.mz_num.specs.Order.{IsBefore}
 use Rattle.mz_targets.specs.Amounts.{IsAmount}
 use Rattle.mz_targets.specs.declared.zone_targets.ZoneTarget.{ZoneTarget}
 use Rattle.mz_targets.specs.ZoneTargets.{IsZoneTarget}

@@ -9,8 +9,8 @@ use Rattle.std.proofs.lemmas.List.Elements.{All-nil, All-cons, All-head, All-tai
 use Rattle.std.proofs.lemmas.List.Kept.{AllPairs-cons}
 use Rattle.mz_model.specs.Amounts.{holder_of, holders_of}
 use Rattle.mz_model.proofs.AmountLaws.{AllPairs-head, AllPairs-tail, holders_of-cons, holders_of-nil}
-use Rattle.mz_model.proofs.PlaceLaws.{get_or-list_below, length-list_below, values_at-All}
-use Rattle.mz_rows.specs.Pairs.{IsBefore}
+use Rattle.mz_num.proofs.PlaceLaws.{get_or-list_below, length-list_below, values_at-All}
+use Rattle.mz_num.specs.Order.{IsBefore}
 use Rattle.mz_targets.specs.Amounts.{IsAmount}
 use Rattle.mz_project.specs.declared.limits.amounts.Holdings.{Holdings}
 use Rattle.mz_project.specs.declared.targets.Targets.{Targets}

@@ -5,7 +5,7 @@ use Rattle.std.specs.List.{All, list_any}
 use Rattle.std.proofs.lemmas.Bool.{cases_lt, lt-ltb, le-ltb, le-leb, lt-leb}
 use Rattle.std.proofs.Math.Nat.{le-div_iff_mul-le, div-lt_iff_lt-mul}
 use Rattle.mz_num.specs.Round.{round}
-use Rattle.mz_model.specs.Places.{greatest_below}
+use Rattle.mz_num.specs.Places.{greatest_below}
 use Rattle.mz_bounds.specs.declared.bounds.Bounds.{Bounds}
 use Rattle.mz_project.specs.declared.limits.lengths.Lengths.{Lengths}
 use Rattle.mz_project.specs.Lengths.{lengths_of}

@@ -4,8 +4,8 @@ use Rattle.std.specs.Prelude.{◌==◌, nat_lt, if◌then◌else◌, slice_index
 use Rattle.std.specs.List.{All, list_any}
 use Rattle.std.proofs.lemmas.List.{append_assoc, map_more}
 use Rattle.mz_model.specs.Amounts.{total_of}
-use Rattle.mz_model.specs.Places.{list_below}
-use Rattle.mz_model.proofs.PlaceLaws.{length-list_below, get_or-list_below, list_below-more}
+use Rattle.mz_num.specs.Places.{list_below}
+use Rattle.mz_num.proofs.PlaceLaws.{length-list_below, get_or-list_below, list_below-more}
 use Rattle.mz_targets.specs.declared.features.Feature.{Feature}
 use Rattle.mz_targets.specs.declared.zone_targets.ZoneTarget.{ZoneTarget}
 use Rattle.mz_targets.specs.Level.{level}

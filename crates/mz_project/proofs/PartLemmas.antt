@@ -12,14 +12,14 @@ use Rattle.mz_bounds.specs.Rates.{rate}
 use Rattle.mz_model.specs.declared.parts.Target.{Target}
 use Rattle.mz_model.specs.Boundary.{IsLength, greatest_rate}
 use Rattle.mz_model.specs.Parts.{no_target, rate_at, target_at}
-use Rattle.mz_model.specs.Places.{sum_below, greatest_below, list_below}
+use Rattle.mz_num.specs.Places.{sum_below, greatest_below, list_below}
 use Rattle.mz_model.specs.Targets.{amount_for, gain_from, gain_of}
-use Rattle.mz_model.specs.Valid.{IsAmount, IsOverallRow, IsValid, IsSmall, IsInShape, IsWithinLimits, IsZoneRow, IsZoneSet}
-use Rattle.mz_model.proofs.PlaceLaws.{length-list_below, get_or-list_below, sum_below-mono, greatest_below-le, at-le-greatest_below}
+use Rattle.mz_num.specs.ZoneSet.{IsZoneSet}
+use Rattle.mz_model.specs.Valid.{IsAmount, IsOverallRow, IsValid, IsSmall, IsInShape, IsWithinLimits, IsZoneRow}
+use Rattle.mz_num.proofs.PlaceLaws.{length-list_below, get_or-list_below, sum_below-mono, greatest_below-le, at-le-greatest_below}
 use Rattle.mz_rows.proofs.PairLemmas.{pair-below, pair-first, pair-second}
 use Rattle.mz_targets.specs.Amounts as targets
 use Rattle.mz_targets.specs.declared.zone_targets.ZoneTarget.{ZoneTarget}
-use Rattle.mz_units.specs.ZoneSets as units
 use Rattle.mz_project.specs.declared.area.Area.{Area}
 use Rattle.mz_project.specs.declared.region.Region.{Region}
 use Rattle.mz_project.specs.Fits.{FitsRegion}
@@ -57,7 +57,7 @@ costs-within area within =
     let limit = within_limit area within in
     omega (arith, all, limit)
 
-set-is : (zones : ℕ) (allowed : List ℕ) (unit : ℕ) → All (units.IsZoneSet zones) allowed → unit < length allowed → IsZoneSet zones (slice_index allowed unit)
+set-is : (zones : ℕ) (allowed : List ℕ) (unit : ℕ) → All (IsZoneSet zones) allowed → unit < length allowed → IsZoneSet zones (slice_index allowed unit)
 set-is zones allowed unit sets within = record { some_zone = (sets unit 0 within).some_zone; in_range = (sets unit 0 within).in_range }
 
 -- target rows

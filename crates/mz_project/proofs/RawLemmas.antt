@@ -5,8 +5,8 @@ use Rattle.std.specs.List.{sum}
 use Rattle.std.proofs.lemmas.Bool.{ltb-false}
 use Rattle.std.proofs.lemmas.List.{take_all}
 use Rattle.std.proofs.lemmas.List.Sums.{sum_by_more}
-use Rattle.mz_model.specs.Places.{list_below, sum_below}
-use Rattle.mz_model.proofs.PlaceLaws.{get_or-list_below, length-list_below, list_below-more, sum_below-same}
+use Rattle.mz_num.specs.Places.{list_below, sum_below}
+use Rattle.mz_num.proofs.PlaceLaws.{get_or-list_below, length-list_below, list_below-more, sum_below-same}
 use Rattle.mz_project.specs.declared.area.Area.{Area}
 use Rattle.mz_project.specs.Fits.{FitsArea}
 use Rattle.mz_project.specs.Limits.{costs_are_above, greatest_cost, is_above, raw_cost}

@@ -2,7 +2,7 @@
 use Rattle.std.proofs.Common.{ℕ, ◌-◌, ◌^◌, ◌<◌}
 use Rattle.std.proofs.lemmas.List.{length-replicate}
 use Rattle.std.proofs.lemmas.List.Elements.{All-replicate}
-use Rattle.mz_units.specs.ZoneSets.{IsZoneSet}
+use Rattle.mz_num.specs.ZoneSet.{IsZoneSet}
 use Rattle.mz_units.proofs.ZoneSetLemmas.{set-every}
 use Rattle.mz_project.specs.Fits.{AreZoneSets}
 use Rattle.mz_project.specs.Sets.{every_zone}

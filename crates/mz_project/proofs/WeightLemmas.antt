@@ -11,8 +11,8 @@ use Rattle.std.proofs.lemmas.Option.{get_or_from_slice_get}
 use Rattle.mz_model.specs.declared.parts.Target.{Target}
 use Rattle.mz_model.specs.Amounts.{holders_of}
 use Rattle.mz_model.specs.Parts.{no_target}
-use Rattle.mz_model.specs.Places.{list_below}
-use Rattle.mz_model.proofs.PlaceLaws.{get_or-list_below, length-list_below}
+use Rattle.mz_num.specs.Places.{list_below}
+use Rattle.mz_num.proofs.PlaceLaws.{get_or-list_below, length-list_below}
 use Rattle.mz_penalty.specs.Base.{base_of}
 use Rattle.mz_penalty.specs.Weight.{weight_of}
 use Rattle.mz_targets.specs.declared.features.Feature.{Feature}

@@ -6,7 +6,7 @@ use Rattle.mz_bounds.specs.declared.bounds.Bounds.{Bounds}
 use Rattle.mz_bounds.specs.Bounds.{bounds_of}
 use Rattle.mz_bounds.specs.Wanted.{bound_columns, zone_bound_columns}
 use Rattle.mz_bounds.specs.ZoneBounds.{zone_bounds_of}
-use Rattle.mz_model.specs.Places.{list_below}
+use Rattle.mz_num.specs.Places.{list_below}
 use Rattle.mz_project.specs.declared.area.Area.{Area}
 use Rattle.mz_project.specs.declared.boundaries.Boundaries.{Boundaries}
 use Rattle.mz_project.specs.declared.fault.Which.TheVariants.{Bounds as BoundFile, ZoneBounds}

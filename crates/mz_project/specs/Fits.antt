@@ -9,7 +9,7 @@ use Rattle.mz_targets.specs.Features.{IsFeatureList}
 use Rattle.mz_targets.specs.ZoneTargets.{AreZoneTargets}
 use Rattle.mz_units.specs.Named.{IsNamedList}
 use Rattle.mz_units.specs.UnitRows.{IsUnitList}
-use Rattle.mz_units.specs.ZoneSets.{IsZoneSet}
+use Rattle.mz_num.specs.ZoneSet.{IsZoneSet}
 use Rattle.mz_project.specs.declared.area.Area.{Area}
 use Rattle.mz_project.specs.declared.boundaries.Boundaries.{Boundaries}
 use Rattle.mz_project.specs.declared.region.Region.{Region}

@@ -1,7 +1,7 @@
 -- The amounts of all features, and those of each.
 use Rattle.std.specs.Prelude.{length}
 use Rattle.mz_model.specs.Amounts.{holders_of, total_of}
-use Rattle.mz_model.specs.Places.{list_below}
+use Rattle.mz_num.specs.Places.{list_below}
 use Rattle.mz_project.specs.declared.limits.amounts.Holdings.{Holdings}
 use Rattle.mz_project.specs.declared.targets.Targets.{Targets}
 

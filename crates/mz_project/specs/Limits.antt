@@ -6,7 +6,7 @@ use Rattle.mz_params.specs.declared.params.Params.{Params}
 use Rattle.mz_model.specs.declared.parts.Parts.{Parts}
 use Rattle.mz_model.specs.declared.parts.Target.{Target}
 use Rattle.mz_model.specs.Amounts.{amount_of, total_of}
-use Rattle.mz_model.specs.Places.{sum_below, greatest_below}
+use Rattle.mz_num.specs.Places.{sum_below, greatest_below}
 use Rattle.mz_model.specs.Targets.{counted}
 use Rattle.mz_bounds.specs.declared.bounds.Bounds.{Bounds}
 use Rattle.mz_project.specs.declared.area.Area.{Area}

@@ -4,7 +4,7 @@ use Rattle.mz_params.specs.declared.params.Params.{Params}
 use Rattle.mz_model.specs.declared.parts.Parts.{Parts}
 use Rattle.mz_model.specs.declared.parts.Target.{Target}
 use Rattle.mz_model.specs.Amounts.{holders_of, total_of}
-use Rattle.mz_model.specs.Places.{list_below, sum_below}
+use Rattle.mz_num.specs.Places.{list_below, sum_below}
 use Rattle.mz_bounds.specs.Rates.{rate}
 use Rattle.mz_penalty.specs.Base.{base_of}
 use Rattle.mz_penalty.specs.Weight.{weight_of}

@@ -26,7 +26,7 @@ pub(crate) fn read_bytes<S: Shelf>(
     ensures short { IfOk result (λ bytes. length bytes.items ≤ 268435456) }
 {
     // The name comes first, so that want of memory for it leaves the shelf as it was.
-    let file = text_of(alloc, name)?;
+    let file = Text::copy_of(alloc, name)?;
     match shelf.read_file(alloc, name) {
         Ok(bytes) => Ok(bytes),
         Err(ShelfErr::Failed) => Err(ReadFault::Shelf(file)),
@@ -34,12 +34,6 @@ pub(crate) fn read_bytes<S: Shelf>(
         Err(ShelfErr::TooLong) => Err(ReadFault::Input(InputFault::TooLong(which))),
         Err(ShelfErr::NoMemory) => Err(ReadFault::NoMemory),
     }
-}
-
-fn text_of(alloc: Global, bytes: &str) -> Result<Text, NoMemory>
-    ensures { IfOk result (λ text. text ≡ bytes.now) }
-{
-    Ok(Text::new(String::from_str(alloc, bytes)?))
 }
 
 /// The wanted columns of the file of that name in a folder.

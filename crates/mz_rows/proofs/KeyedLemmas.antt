@@ -8,31 +8,9 @@ use Rattle.std.proofs.lemmas.List.{get_or-replicate, get_or-set_other, get_or-se
 use Rattle.std.proofs.lemmas.List.Folds.{list_any-append}
 use Rattle.std.proofs.lemmas.List.FromFn.{length-map-range_with_len, get_or-map-range_with_len, fill_by_all}
 use Rattle.mz_tables.specs.Ids.{has_id}
-use Rattle.mz_rows.specs.Keyed.{list_below, value_at, values_below}
-
--- ---- lists by place
-
-pub length-list_below : {X : Type 0} (n : ℕ) (f : ℕ → X) → length (list_below n f) ≡ n
-length-list_below n f = length-map-range_with_len f 0 n
-
-pub get_or-list_below : {X : Type 0} (n k : ℕ) (f : ℕ → X) (d : X) → k < n → get_or (list_below n f) k d ≡ f k
-get_or-list_below n k f d h = get_or-map-range_with_len f 0 n k k d h (omega arith)
-
--- a list is the one that f gives where it has the length and, place by place, the values
-pub list_below-from : {X : Type 0} (n : ℕ) (f : ℕ → X) (xs : List X) (d : X) → length xs ≡ n → ((k : ℕ) → k < n → get_or xs k d ≡ f k) → xs ≡ list_below n f
-list_below-from n f xs d len at = fill_by_all f xs n d len at
-
-pub list_below-same : {X : Type 0} (n : ℕ) (f : ℕ → X) (x d : X) → ((k : ℕ) → k < n → x ≡ f k) → replicate n x ≡ list_below n f
-list_below-same n f x d same = list_below-from n f (replicate n x) d (length-replicate n x) (λ k h. get_or-replicate n k x d h ∙ same k h)
-
-pub list_below-set : {X : Type 0} (n i : ℕ) (f g : ℕ → X) (x d : X) → i < n → x ≡ g i → ((k : ℕ) → k < n → (k ≡ i → ⊥) → f k ≡ g k) → set (list_below n f) i x ≡ list_below n g
-list_below-set {X} n i f g x d h here there =
-    let len : length (list_below n f) ≡ n = length-list_below n f in
-    list_below-from n g (set (list_below n f) i x) d (length-set (list_below n f) i x ∙ len)
-    (λ k below. elim (cases_eq k i) [
-      | inl e ↦ (ap (λ j. get_or (set (list_below n f) i x) j d) e ∙ get_or-set_same (list_below n f) i x d (omega arith) ∙ here ∙ ap g (sym e))
-      | inr other ↦ (get_or-set_other (list_below n f) i k x d other ∙ get_or-list_below n k f d below ∙ there k below other)
-    ])
+use Rattle.mz_num.specs.Places.{list_below}
+use Rattle.mz_num.proofs.PlaceLaws.{get_or-list_below, length-list_below, list_below-from, list_below-set, replicate-list_below}
+use Rattle.mz_rows.specs.Keyed.{value_at, values_below}
 
 -- ---- the row that has a key
 
@@ -88,7 +66,7 @@ abbrev pub AreMarks : {Item : Type 0} → ℕ → (Item → ℕ) → List Item �
 AreMarks n key items marks = marks ≡ list_below n (λ k. has_id (map key items) k)
 
 pub marks-none : {Item : Type 0} (n : ℕ) (key : Item → ℕ) (marks : List Bool) → marks ≡ replicate n false → AreMarks n key [] marks
-marks-none {Item} n key marks e = e ∙ list_below-same n (λ k. has_id (map key []) k) false false (λ k h. refl)
+marks-none {Item} n key marks e = e ∙ replicate-list_below n (λ k. has_id (map key []) k) false false (λ k h. refl)
 
 pub marks-at : {Item : Type 0} (n : ℕ) (key : Item → ℕ) (items : List Item) (marks : List Bool) (k : ℕ) (d mark : Bool) → AreMarks n key items marks → k < n → mark ≡ get_or marks k d → has_id (map key items) k ≡ mark
 marks-at n key items marks k d mark are h at = sym (get_or-list_below n k (λ k. has_id (map key items) k) d h) ∙ ap (λ (ms : List Bool). get_or ms k d) (sym are) ∙ sym at

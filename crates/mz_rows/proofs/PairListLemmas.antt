@@ -6,7 +6,8 @@ use Rattle.std.proofs.lemmas.Bool.{cases_eq}
 use Rattle.std.proofs.lemmas.List.Elements.{All-append, All-cons, All-contains, All-head, All-nil, All-tail, Contains-append_left, Contains-append_right}
 use Rattle.std.proofs.lemmas.List.Kept.{AllPairs-cons}
 use Rattle.std.proofs.lemmas.Map.Made.{Contains-tail}
-use Rattle.mz_rows.specs.Pairs.{IsBefore, pair_if, pairs_below}
+use Rattle.mz_num.specs.Order.{IsBefore}
+use Rattle.mz_rows.specs.Pairs.{pair_if, pairs_below}
 
 -- two places and a number
 abbrev Pair : Type 0

@@ -1,10 +1,7 @@
 -- Values by place, where a row gives the value of one place, which is its key.
 use Rattle.std.specs.Prelude.{ℕ, ◌==◌, List, map, Option, option_map, unwrap_or}
-use Rattle.std.specs.List.{find, range_with_len}
-
--- the list of what f gives at each place below n, in order
-abbrev pub list_below : {X : Type 0} → ℕ → (ℕ → X) → List X
-list_below n f = map f (range_with_len 0 n)
+use Rattle.std.specs.List.{find}
+use Rattle.mz_num.specs.Places.{list_below}
 
 -- the value of the row that has the key, if there is one
 abbrev pub value_at : {Item : Type 0} → (Item → ℕ) → (Item → ℕ) → List Item → ℕ → Option ℕ

@@ -1,10 +1,6 @@
 -- Pairs of places, each with a number, in order of the first place and then of the second.
-use Rattle.std.specs.Prelude.{ℕ, ◌≡◌, ◌<◌, ◌⊎◌, Bool, List, [], ◌∷◌, if◌then◌else◌}
+use Rattle.std.specs.Prelude.{ℕ, Bool, List, [], ◌∷◌, if◌then◌else◌}
 use Rattle.std.specs.List.{flat_map, range_with_len}
-
--- the first place decides, and where it is the same, the second one
-abbrev pub IsBefore : ℕ × ℕ × ℕ → ℕ × ℕ × ℕ → Type 0
-IsBefore a b = (a.0 < b.0) ⊎ ((a.0 ≡ b.0) × (a.1 < b.1))
 
 -- a pair that passes the test, with its number
 abbrev pub pair_if : (ℕ → ℕ → Bool) → (ℕ → ℕ → ℕ) → ℕ → ℕ → List (ℕ × ℕ × ℕ)

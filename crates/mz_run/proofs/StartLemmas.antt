@@ -10,11 +10,12 @@ use Rattle.std.proofs.lemmas.Nat.Bits.{bit_at-trailing_zeros}
 use Rattle.std.proofs.Math.Pow.{pow_mono}
 use Rattle.mz_model.specs.declared.parts.Parts.{Parts}
 use Rattle.mz_model.specs.Parts.{unit_count, zone_count}
-use Rattle.mz_model.specs.Places.{list_below, places_below}
+use Rattle.mz_num.specs.Places.{list_below, places_below}
 use Rattle.mz_model.specs.Plans.{IsLegalPlan}
-use Rattle.mz_model.specs.Valid.{IsValid, IsZoneSet}
+use Rattle.mz_num.specs.ZoneSet.{IsZoneSet}
+use Rattle.mz_model.specs.Valid.{IsValid}
 use Rattle.mz_model.specs.Zones.{is_allowed, is_free, allowed_zones}
-use Rattle.mz_model.proofs.PlaceLaws.{get_or-list_below, length-list_below, list_below-same, places_below-has, places_below-pass, places_below-rising}
+use Rattle.mz_num.proofs.PlaceLaws.{get_or-list_below, length-list_below, list_below-same, places_below-has, places_below-pass, places_below-rising}
 use Rattle.mz_model.proofs.ZoneLaws.{allowed_zones-has, zone-in_range}
 use Rattle.mz_draw.specs.Words.{word_at}
 use Rattle.mz_run.specs.Start.{starting_plan, starting_zone, resting_zone, is_drawn, start_seat, free_before}

@@ -3,8 +3,8 @@ use Rattle.std.proofs.Common.{◌≡◌, ℕ, ◌+◌, List, [], ◌∷◌, ◌+
 use Rattle.std.specs.List.{concat}
 use Rattle.std.proofs.lemmas.List.{append-nil}
 use Rattle.std.proofs.lemmas.List.Folds.{concat-append}
-use Rattle.mz_model.specs.Places.{list_below}
-use Rattle.mz_model.proofs.PlaceLaws.{list_below-more}
+use Rattle.mz_num.specs.Places.{list_below}
+use Rattle.mz_num.proofs.PlaceLaws.{list_below-more}
 
 -- one piece more
 pub pieces_more : (n : ℕ) (f : ℕ → List ℕ) (first before after : List ℕ) → before ≡ first ++ concat (list_below n f) → after ≡ before ++ f n → after ≡ first ++ concat (list_below (n + 1) f)

@@ -5,7 +5,7 @@ use Rattle.mz_num.specs.Decimal.{ten4_text}
 use Rattle.mz_model.specs.declared.parts.Parts.{Parts}
 use Rattle.mz_model.specs.declared.score.Score.{Score}
 use Rattle.mz_model.specs.Parts.{unit_count, row_count}
-use Rattle.mz_model.specs.Places.{sum_below, list_below}
+use Rattle.mz_num.specs.Places.{sum_below, list_below}
 use Rattle.mz_model.specs.Scores.{score_of_plan}
 use Rattle.mz_model.specs.Targets.{held_of, shortfall_of}
 

@@ -2,7 +2,7 @@
 use Rattle.std.specs.Prelude.{ℕ, ◌+◌, ◌*◌, ◌/◌, ◌^◌, Bool, if◌then◌else◌, nat_lt, List, length, slice_index}
 use Rattle.mz_model.specs.declared.parts.Parts.{Parts}
 use Rattle.mz_model.specs.Parts.{unit_count}
-use Rattle.mz_model.specs.Places.{list_below, places_below}
+use Rattle.mz_num.specs.Places.{list_below, places_below}
 use Rattle.mz_model.specs.Zones.{is_allowed, is_free, allowed_zones}
 use Rattle.mz_draw.specs.Words.{word_at, pick_of}
 

@@ -3,8 +3,7 @@ ghost use Rattle.std.specs.Prelude.{◌≡◌, ◌++◌, codes, decimal, map, If
 ghost use Rattle.mz_params.specs.KeyName.{name_of};
 ghost use Rattle.mz_run.specs.Refusal.{column_name, column_names as names_of_columns, input_text, is_cost_column as is_cost, number_text, param_text, row_text, table_text, word_of_file, word_of_quantity};
 
-use crate::text::{push_bytes, push_number};
-use mz_num::{NoMemory, NumFault};
+use mz_num::{NoMemory, NumFault, push_bytes, push_number};
 use mz_params::{Key, ParamFault, key_name};
 use mz_project::{InputFault, What, Which};
 use mz_tables::{RowFault, TableFault};

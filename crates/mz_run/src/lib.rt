@@ -17,7 +17,6 @@ mod status;
 mod stop;
 #[cfg(test)]
 mod tests;
-mod text;
 mod trail;
 mod words;
 

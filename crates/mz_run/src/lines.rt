@@ -3,9 +3,8 @@ ghost use Rattle.std.specs.Prelude.{◌≡◌, IfOk};
 ghost use Rattle.mz_run.specs.Lines.{opening_text, run_text, closing_text};
 
 use crate::job::Job;
-use crate::text::{push_bytes, push_number};
 use crate::trail::RunTrail;
-use mz_num::{NoMemory, write_ten4};
+use mz_num::{NoMemory, write_ten4, push_bytes, push_number};
 use std::alloc::Global;
 
 /// The random seed, and how many units, zones, target rows and free units there are.

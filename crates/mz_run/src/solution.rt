@@ -2,15 +2,14 @@
 ghost use Rattle.std.specs.Prelude.{◌≡◌, ◌++◌, ◌<◌, IfOk, OnOk};
 ghost use Rattle.std.specs.List.{concat};
 ghost use Rattle.mz_model.specs.Parts.{unit_count};
-ghost use Rattle.mz_model.specs.Places.{list_below};
+ghost use Rattle.mz_num.specs.Places.{list_below};
 ghost use Rattle.mz_model.specs.Plans.{IsLegalPlan};
 ghost use Rattle.mz_model.specs.Scores.{score_of_plan};
 ghost use Rattle.mz_model.specs.Valid.{IsValid};
 ghost use Rattle.mz_run.specs.Solution.{amount_line, score_lines, shortfall_of_plan, solution_text, unit_line};
 
-use crate::text::{push_bytes, push_number};
 use mz_model::{Plan, Problem, Score, held, short};
-use mz_num::{NoMemory, write_ten4};
+use mz_num::{NoMemory, write_ten4, push_bytes, push_number};
 use std::alloc::Global;
 
 /// The zone of each unit, and what the plan scores and misses.

@@ -26,19 +26,12 @@ impl From<NoMemory> for Stop {
     }
 }
 
-/// A text of its own with these bytes.
-pub(crate) fn text_of(alloc: Global, bytes: &str) -> Result<Text, NoMemory>
-    ensures { IfOk result (λ text. text ≡ bytes.now) }
-{
-    Ok(Text::new(String::from_str(alloc, bytes)?))
-}
-
 /// Says a text.
 pub(crate) fn say<S: Shelf>(alloc: Global, shelf: &mut S, text: &[u8]) -> Result<(), Stop>
     ensures { Performed (Say text.now ∷ []) (S.state shelf.old) (S.state shelf.new) result }
 {
     // The name comes first: want of memory for it must not come after a part was said.
-    let name = text_of(alloc, "-")?;
+    let name = Text::copy_of(alloc, "-")?;
     match shelf.say(alloc, text) {
         Ok(()) => Ok(()),
         Err(ShelfErr::Failed) => Err(Stop::Fault(name)),

@@ -13,7 +13,7 @@ use Rattle.std.proofs.lemmas.List.Sums.{sum_by-cons, sum_by-le, sum_by_push}
 use Rattle.mz_tables.specs.Table.{Row}
 use Rattle.mz_tables.specs.declared.fault.RowFault.{RowFault}
 use Rattle.mz_rows.specs.Answer.{IsFaultOf}
-use Rattle.mz_rows.specs.Pairs.{IsBefore}
+use Rattle.mz_num.specs.Order.{IsBefore}
 use Rattle.mz_rows.specs.Rows.{go_on}
 use Rattle.mz_rows.proofs.AnswerLemmas.{fault-on}
 use Rattle.mz_rows.proofs.PairListLemmas.{pairs_below-are}

@@ -9,7 +9,8 @@ use Rattle.mz_tables.specs.Table.{Row}
 use Rattle.mz_tables.specs.declared.fault.RowFault.{RowFault}
 use Rattle.mz_tables.specs.declared.fault.RowFault.TheVariants.{TooMany, Repeated}
 use Rattle.mz_rows.specs.Rows.{RowReader, items_of}
-use Rattle.mz_rows.proofs.KeyedLemmas.{AreMarks, length-list_below, marks-none, marks-at, marks-more}
+use Rattle.mz_num.proofs.PlaceLaws.{length-list_below}
+use Rattle.mz_rows.proofs.KeyedLemmas.{AreMarks, marks-none, marks-at, marks-more}
 use Rattle.mz_rows.proofs.RowLemmas.{HasRead, has_read-none, has_read-all, listed, listed-past, listed-fault, listed-repeated, listed-more}
 use Rattle.mz_targets.specs.ZoneTargets.{AreZoneTargets, IsZoneTarget, target_place, zone_target_in, zone_targets_of}
 use Rattle.mz_targets.specs.declared.zone_targets.ZoneTarget.{ZoneTarget}

@@ -5,7 +5,8 @@ use Rattle.std.specs.List.Sorted.{IsPermutation}
 use Rattle.mz_tables.specs.Table.{Row}
 use Rattle.mz_tables.specs.declared.fault.RowFault.{RowFault}
 use Rattle.mz_rows.specs.Columns.{place_in, ten4_in}
-use Rattle.mz_rows.specs.Pairs.{IsBefore, pairs_below}
+use Rattle.mz_num.specs.Order.{IsBefore}
+use Rattle.mz_rows.specs.Pairs.{pairs_below}
 use Rattle.mz_rows.specs.Rows.{at_most, go_on, items_of, line_behind}
 use Rattle.mz_targets.specs.declared.amounts.Amount.{Amount}
 

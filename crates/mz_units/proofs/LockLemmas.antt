@@ -14,9 +14,11 @@ use Rattle.std.specs.Prelude.{unwrap_or}
 use Rattle.mz_rows.specs.Keyed.{value_at}
 use Rattle.mz_units.specs.Locks.{IsNarrowed, is_allowed, lock_rows, locked_sets, locked_sets_of, unless_outside, within_sets}
 use Rattle.mz_rows.specs.Rows.{RowReader, go_on, items_of, line_behind, once}
-use Rattle.mz_units.specs.ZoneSets.{IsZoneSet, unit_zone_in}
+use Rattle.mz_num.specs.ZoneSet.{IsZoneSet}
+use Rattle.mz_units.specs.ZoneSets.{unit_zone_in}
 use Rattle.mz_units.specs.declared.unit_zone.UnitZone.{UnitZone}
-use Rattle.mz_rows.proofs.KeyedLemmas.{AreMarks, length-list_below, marks-none, marks-at, marks-more, values-none, values-more}
+use Rattle.mz_num.proofs.PlaceLaws.{length-list_below}
+use Rattle.mz_rows.proofs.KeyedLemmas.{AreMarks, marks-none, marks-at, marks-more, values-none, values-more}
 use Rattle.mz_rows.proofs.RowLemmas.{HasRead, has_read-none, has_read-more, has_read-fault, has_read-all, once-fault, once-new, once-repeated, by_line, by_line-is}
 use Rattle.mz_units.proofs.ZoneSetLemmas.{set-one, unit_of}
 

@@ -9,10 +9,10 @@ use Rattle.std.proofs.lemmas.List.FromFn.{map-range_with_len_more}
 use Rattle.std.proofs.lemmas.List.Sums.{sum_by_push}
 use Rattle.std.proofs.lemmas.Nat.{mul-add-lt}
 use Rattle.mz_num.specs.Round.{round}
-use Rattle.mz_rows.specs.Keyed.{list_below}
+use Rattle.mz_num.specs.Places.{list_below}
 use Rattle.mz_units.specs.Terms.{HasCosts, cost_term}
 use Rattle.mz_units.specs.declared.units.UnitList.{UnitList}
-use Rattle.mz_rows.proofs.KeyedLemmas.{get_or-list_below, length-list_below}
+use Rattle.mz_num.proofs.PlaceLaws.{length-list_below, get_or-list_below}
 
 -- ---- one term
 

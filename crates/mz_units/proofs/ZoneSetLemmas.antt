@@ -15,9 +15,11 @@ use Rattle.mz_tables.specs.Table.{Row}
 use Rattle.mz_tables.specs.declared.fault.RowFault.{RowFault}
 use Rattle.mz_tables.specs.declared.fault.RowFault.TheVariants.{TooMany}
 use Rattle.mz_rows.specs.Rows.{RowReader, go_on, items_of, at_most}
-use Rattle.mz_units.specs.ZoneSets.{IsZoneSet, listed_zones, unit_zone_in, zone_set, zone_set_rows, zone_sets, zone_sets_of}
+use Rattle.mz_num.specs.ZoneSet.{IsZoneSet}
+use Rattle.mz_units.specs.ZoneSets.{listed_zones, unit_zone_in, zone_set, zone_set_rows, zone_sets, zone_sets_of}
 use Rattle.mz_units.specs.declared.unit_zone.UnitZone.{UnitZone}
-use Rattle.mz_rows.proofs.KeyedLemmas.{AreMarks, has_id-map, length-list_below, get_or-list_below, list_below-same, list_below-set, marks-none, marks-at, marks-more}
+use Rattle.mz_num.proofs.PlaceLaws.{length-list_below, get_or-list_below, list_below-set, replicate-list_below}
+use Rattle.mz_rows.proofs.KeyedLemmas.{AreMarks, has_id-map, marks-none, marks-at, marks-more}
 use Rattle.mz_rows.proofs.RowLemmas.{HasRead, has_read-none, has_read-more, has_read-fault, has_read-all, at_most-past, at_most-within, by_line, by_line-is}
 
 -- ---- sets of zones
@@ -114,7 +116,7 @@ zone_sets-none units zones rows limited sets n every size all no_marks full = re
   earlier = [];
   read = has_read-none (zone_set_reader units zones) rows;
   marks = marks-none (length units) unit_of limited (no_marks ∙ ap (λ k. replicate k false) size);
-  values = full ∙ ap (λ k. replicate k every) size ∙ list_below-same (length units) (zone_set (length zones) []) every 0 (λ k h. all);
+  values = full ∙ ap (λ k. replicate k every) size ∙ replicate-list_below (length units) (zone_set (length zones) []) every 0 (λ k h. all);
   fit = λ some. subst (All (IsZoneSet (length zones))) (sym full) (All-replicate (IsZoneSet (length zones)) n every (subst (IsZoneSet (length zones)) (sym all) (set-every (length zones) some)));
 }
 

@@ -4,7 +4,7 @@ use Rattle.std.specs.List.{list_any}
 use Rattle.mz_tables.specs.Table.{Row}
 use Rattle.mz_tables.specs.declared.fault.RowFault.{RowFault}
 use Rattle.mz_rows.specs.Columns.{place_in}
-use Rattle.mz_rows.specs.Keyed.{list_below}
+use Rattle.mz_num.specs.Places.{list_below}
 use Rattle.mz_rows.specs.Rows.{at_most, go_on, items_of, line_behind}
 use Rattle.mz_units.specs.declared.unit_zone.UnitZone.{UnitZone}
 
@@ -34,8 +34,3 @@ zone_sets units zones rows = list_below units (zone_set zones rows)
 -- the zone set of each unit that a table gives, or its first fault
 unfoldable pub zone_sets_of : List ℕ → List ℕ → List Row → Result (List ℕ) RowFault
 zone_sets_of units zones rows = go_on (zone_set_rows units zones rows) (λ listed. Ok (zone_sets (length units) (length zones) listed))
-
--- a set of some of so many zones, which isn't empty
-pub record IsZoneSet (zones set : ℕ) : Type 0 where
-  pub some_zone : 0 < set
-  pub in_range : set < 2 ^ zones

@@ -3,7 +3,7 @@ ghost use Rattle.std.specs.Prelude.{ℕ, ◌≡◌, ◌<◌, ◌≤◌, length, 
 ghost use Rattle.std.specs.List.{All};
 ghost use Rattle.mz_rows.specs.Answer.{Gives};
 ghost use Rattle.mz_units.specs.Locks.{IsNarrowed, locked_sets_of};
-ghost use Rattle.mz_units.specs.ZoneSets.{IsZoneSet};
+ghost use Rattle.mz_num.specs.ZoneSet.{IsZoneSet};
 
 use crate::unit_zone::read_unit_zone;
 use mz_tables::{Ids, RowFault, Table};

@@ -1,7 +1,7 @@
 //! The cost terms: what a unit costs in a zone.
 ghost use Rattle.std.specs.Prelude.{ℕ, ◌≡◌, ◌<◌, ◌≤◌, ◌+◌, ◌*◌, ◌^◌, ◌++◌, length, IfOk, OnOk};
 ghost use Rattle.std.specs.List.{All};
-ghost use Rattle.mz_rows.specs.Keyed.{list_below};
+ghost use Rattle.mz_num.specs.Places.{list_below};
 ghost use Rattle.mz_units.specs.Terms.{AreCostTerms, HasCosts, cost_term};
 
 use crate::units::UnitList;

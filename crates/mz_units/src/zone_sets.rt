@@ -2,7 +2,8 @@
 ghost use Rattle.std.specs.Prelude.{◌≡◌, ◌<◌, ◌≤◌, length, IfOk};
 ghost use Rattle.std.specs.List.{All};
 ghost use Rattle.mz_rows.specs.Answer.{Gives};
-ghost use Rattle.mz_units.specs.ZoneSets.{IsZoneSet, zone_sets_of};
+ghost use Rattle.mz_num.specs.ZoneSet.{IsZoneSet};
+ghost use Rattle.mz_units.specs.ZoneSets.{zone_sets_of};
 
 use crate::unit_zone::read_unit_zone;
 use mz_tables::{Ids, RowFault, Table};

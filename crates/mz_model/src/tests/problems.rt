@@ -1,7 +1,7 @@
 //! Small problems: three units in a row, with two zones or three, and what is left out or added.
 ghost use Rattle.std.specs.Prelude.{◌≡◌, ◌∷◌, [], IfOk, replicate};
 ghost use Rattle.mz_model.specs.Examples.{no_units, three_units, three_zones, unheld_features};
-ghost use Rattle.mz_model.specs.Places.{list_below};
+ghost use Rattle.mz_num.specs.Places.{list_below};
 ghost use Rattle.mz_model.specs.Valid.{IsValid};
 
 use crate::parts::{Parts, Target};

@@ -1,7 +1,7 @@
 //! The amounts of features, their totals, and the limit of a total.
 ghost use Rattle.std.specs.Prelude.{◌≡◌, ◌≤◌, [], IfOk, length, slice_index_or};
 ghost use Rattle.std.specs.List.{All, sum_by};
-ghost use Rattle.mz_model.specs.Places.{list_below};
+ghost use Rattle.mz_num.specs.Places.{list_below};
 ghost use Rattle.mz_project.specs.Fits.{FitsRegion};
 ghost use Rattle.mz_project.specs.Holdings.{holdings_of};
 ghost use Rattle.mz_project.specs.Limits.{Limited, totals_are_above};

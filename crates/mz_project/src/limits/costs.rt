@@ -1,7 +1,7 @@
 //! What the units cost, and its limit.
 ghost use Rattle.std.specs.Prelude.{◌≡◌, ◌≤◌, ◌+◌, ◌*◌, ◌^◌, length, slice_index};
 ghost use Rattle.std.specs.List.{sum};
-ghost use Rattle.mz_model.specs.Places.{sum_below, greatest_below};
+ghost use Rattle.mz_num.specs.Places.{sum_below, greatest_below};
 ghost use Rattle.mz_project.specs.Fits.{FitsArea};
 ghost use Rattle.mz_project.specs.Limits.{Limited, costs_are_above};
 ghost use Rattle.mz_project.specs.Parts.{terms_of};

@@ -2,7 +2,7 @@
 ghost use Rattle.std.specs.Prelude.{◌≡◌, ◌<◌, ◌≤◌, ◌+◌, ◌*◌, ◌^◌, false, length, slice_index};
 ghost use Rattle.std.specs.List.{All, sum_by};
 ghost use Rattle.mz_num.specs.Round.{round};
-ghost use Rattle.mz_model.specs.Places.{greatest_below};
+ghost use Rattle.mz_num.specs.Places.{greatest_below};
 ghost use Rattle.mz_project.specs.Fits.{FitsRegion};
 ghost use Rattle.mz_project.specs.Holdings.{holdings_of};
 ghost use Rattle.mz_project.specs.Limits.{Limited, gains_are_above, totals_are_above};

@@ -1,6 +1,6 @@
 //! The levels of target rows, and their limit.
 ghost use Rattle.std.specs.Prelude.{◌≡◌, ◌≤◌, ◌^◌, ◌++◌, false, length, map, nat_lt, if◌then◌else◌, OnOk};
-ghost use Rattle.mz_model.specs.Places.{list_below};
+ghost use Rattle.mz_num.specs.Places.{list_below};
 ghost use Rattle.mz_targets.specs.Level.{level};
 ghost use Rattle.mz_project.specs.Fits.{FitsRegion};
 ghost use Rattle.mz_project.specs.Holdings.{holdings_of};

@@ -2,7 +2,7 @@
 ghost use Rattle.std.specs.Prelude.{◌≡◌, ◌<◌, ◌≤◌, ◌+◌, ◌*◌, ◌^◌, false, IfOk, length, slice_index, slice_index_or};
 ghost use Rattle.std.specs.List.{sum};
 ghost use Rattle.mz_model.specs.Parts.{no_target};
-ghost use Rattle.mz_model.specs.Places.{sum_below};
+ghost use Rattle.mz_num.specs.Places.{sum_below};
 ghost use Rattle.mz_project.specs.Fits.{FitsArea, FitsRegion};
 ghost use Rattle.mz_project.specs.Holdings.{holdings_of};
 ghost use Rattle.mz_project.specs.Limits.{Weighed, costs_are_above, totals_are_above};

@@ -1,6 +1,6 @@
 use Rattle.std.proofs.Common.{ℕ, List, ◌∙◌, ◌++◌, ◌∷◌, [], sym, ap, arith}
-use Rattle.mz_model.specs.Places.{list_below}
-use Rattle.mz_model.proofs.PlaceLaws.{list_below-more}
+use Rattle.mz_num.specs.Places.{list_below}
+use Rattle.mz_num.proofs.PlaceLaws.{list_below-more}
 use Rattle.judge_bench.proofs.rows.places.Goals as goal
 
 pub loop-place-preserved : goal.loop-place-preserved

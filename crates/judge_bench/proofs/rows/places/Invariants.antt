@@ -1,5 +1,5 @@
 use Rattle.std.proofs.Common.{◌≡◌, ℕ}
-use Rattle.mz_model.specs.Places.{list_below}
+use Rattle.mz_num.specs.Places.{list_below}
 use Rattle.judge_bench.proofs.rows.places.Given as goal
 
 abbrev pub invariant-loop-place : goal.invariant-loop-place

@@ -1,6 +1,6 @@
 use Rattle.std.proofs.Common.{List, length, ap, arith, subst, sym, ◌∙◌}
 use Rattle.std.proofs.lemmas.Result.{err_from_is_err_and}
-use Rattle.mz_rows.specs.Keyed.{list_below}
+use Rattle.mz_num.specs.Places.{list_below}
 use Rattle.mz_bounds.specs.Bounds.{AreAdded, added_length}
 use Rattle.mz_bounds.specs.declared.pair.PairRow.{PairRow}
 use Rattle.mz_bounds.proofs.FitLemmas.{bounds-are, bounds-fit, bounds-stopped}

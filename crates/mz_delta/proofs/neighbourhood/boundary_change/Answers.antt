@@ -4,7 +4,7 @@ use mir.Syntax.{w128}
 use mir.Val.{SFits}
 use Rattle.mz_model.specs.Boundary.{edge_term_of}
 use Rattle.mz_model.specs.Parts.{outer_at}
-use Rattle.mz_model.proofs.PlaceLaws.{sum_below-more}
+use Rattle.mz_num.proofs.PlaceLaws.{sum_below-more}
 use Rattle.mz_model.proofs.ZoneLaws.{is_allowed-in_range}
 use Rattle.mz_delta.specs.Move.{boundary_around, neighbour_term}
 use Rattle.mz_delta.proofs.AroundLaws.{boundary_around-is, neighbour-in_range, neighbour_term-is, neighbours-all}

@@ -1,5 +1,5 @@
 use Rattle.std.proofs.Common.{◌≡◌, ◌*◌, ◌^◌, ◌≤◌}
-use Rattle.mz_model.specs.Places.{sum_below}
+use Rattle.mz_num.specs.Places.{sum_below}
 use Rattle.mz_delta.specs.Move.{neighbour_term}
 use Rattle.mz_delta.proofs.neighbourhood.boundary_change.Given as goal
 

@@ -1,5 +1,5 @@
 use Rattle.std.proofs.Common.{ap, arith, get_or, length}
-use Rattle.mz_model.proofs.PlaceLaws.{length-list_below}
+use Rattle.mz_num.proofs.PlaceLaws.{length-list_below}
 use Rattle.mz_model.proofs.ZoneLaws.{is_allowed-in_range}
 use Rattle.mz_delta.specs.Move.{moved_total}
 use Rattle.mz_delta.proofs.AroundLaws.{moved_totals-is, moved_totals-more, read_total-le, touch-gain, touches-all}

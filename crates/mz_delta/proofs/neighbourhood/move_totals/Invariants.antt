@@ -1,5 +1,5 @@
 use Rattle.std.proofs.Common.{◌≡◌, ◌≤◌}
-use Rattle.mz_model.specs.Places.{list_below}
+use Rattle.mz_num.specs.Places.{list_below}
 use Rattle.mz_delta.specs.Move.{moved_total}
 use Rattle.mz_delta.proofs.neighbourhood.move_totals.Given as goal
 

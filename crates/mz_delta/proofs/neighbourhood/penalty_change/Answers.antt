@@ -2,7 +2,7 @@ use Rattle.std.proofs.Common.{◌≡◌, ◌∙◌, arith, rules}
 use Rattle.std.proofs.lemmas.Int.{to_z-of_z}
 use mir.Syntax.{w128}
 use mir.Val.{SFits}
-use Rattle.mz_model.proofs.PlaceLaws.{sum_below-more}
+use Rattle.mz_num.proofs.PlaceLaws.{sum_below-more}
 use Rattle.mz_delta.proofs.AroundLaws.{penalty_around-change, touched_penalty, touched_penalty-is, touched_penalty-same, touches-all}
 use Rattle.mz_delta.proofs.neighbourhood.penalty_change.Goals as goal
 use Rattle.mz_delta.proofs.neighbourhood.penalty_change.Goals.{then-old-i, else-old-i}

@@ -1,5 +1,5 @@
 use Rattle.std.proofs.Common.{◌≡◌}
-use Rattle.mz_model.specs.Places.{list_below}
+use Rattle.mz_num.specs.Places.{list_below}
 use Rattle.mz_model.specs.Targets.{held_of}
 use Rattle.mz_delta.proofs.reads.totals_of.Given as goal
 

@@ -1,7 +1,7 @@
 use Rattle.std.proofs.Common.{◌≡◌, ◌∙◌, ap, arith, length}
 use Rattle.mz_model.specs.Targets.{touched_rows}
 use Rattle.mz_model.specs.Parts.{unit_count}
-use Rattle.mz_model.specs.Places.{greatest_below}
+use Rattle.mz_num.specs.Places.{greatest_below}
 use Rattle.mz_delta.specs.Rooms.{greatest_touched}
 use Rattle.mz_delta.proofs.rooms.greatest_touched.Goals as goal
 

@@ -2,7 +2,7 @@ use Rattle.std.proofs.Common.{◌==◌, ◌∙◌, sym}
 use Rattle.std.specs.Int.{bit_at}
 use Rattle.std.proofs.lemmas.Bool.{eq-eqb, ne_eqb}
 use Rattle.std.proofs.lemmas.Nat.Bits.{shr_and_one}
-use Rattle.mz_model.proofs.PlaceLaws.{places_below-passed, places_below-failed}
+use Rattle.mz_num.proofs.PlaceLaws.{places_below-passed, places_below-failed}
 use Rattle.mz_model.proofs.build.add_zones.Goals as goal
 use Rattle.mz_model.proofs.build.add_zones.Goals.{then-set-zone-eq1+in_ok-push, else-set-zone-eq1}
 

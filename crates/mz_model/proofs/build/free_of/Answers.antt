@@ -2,7 +2,7 @@ use Rattle.std.proofs.Common.{◌≡◌, ◌∙◌, arith}
 use Rattle.mz_model.specs.Parts.{unit_count}
 use Rattle.mz_model.specs.Zones.{allowed_zones, is_free}
 use Rattle.mz_model.proofs.ListLaws.{table-row}
-use Rattle.mz_model.proofs.PlaceLaws.{places_below-passed, places_below-failed}
+use Rattle.mz_num.proofs.PlaceLaws.{places_below-passed, places_below-failed}
 use Rattle.mz_model.proofs.ZoneLaws.{is_free-many, is_free-few, free_units-is}
 use Rattle.mz_model.proofs.build.free_of.Goals as goal
 use Rattle.mz_model.proofs.build.free_of.Goals.{then-at-gt1+in_ok-push, else-at-gt1}

@@ -1,5 +1,5 @@
 use Rattle.std.proofs.Common.{◌≡◌}
-use Rattle.mz_model.specs.Places.{places_below}
+use Rattle.mz_num.specs.Places.{places_below}
 use Rattle.mz_model.specs.Zones.{is_free}
 use Rattle.mz_model.proofs.build.free_of.Given as goal
 

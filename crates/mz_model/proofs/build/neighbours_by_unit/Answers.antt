@@ -4,7 +4,7 @@ use Rattle.std.proofs.lemmas.List.{length-set}
 use Rattle.std.proofs.lemmas.Result.{IfOk-weaker}
 use Rattle.mz_model.specs.Boundary.{ends_of, neighbours_of}
 use Rattle.mz_model.specs.Parts.{unit_count}
-use Rattle.mz_model.specs.Places.{list_below}
+use Rattle.mz_num.specs.Places.{list_below}
 use Rattle.mz_model.specs.Valid.{IsPair}
 use Rattle.mz_model.proofs.BuildLaws.{empty_lists, filled-none, length-empty-filled, neighbours-done, neighbours-more, pair-at}
 use Rattle.mz_model.proofs.build.neighbours_by_unit.Goals as goal

@@ -3,7 +3,7 @@ use Rattle.std.specs.List.{flat_map}
 use Rattle.mz_model.specs.Boundary.{ends_of}
 use Rattle.mz_model.specs.Groups.{filled}
 use Rattle.mz_model.specs.Parts.{unit_count}
-use Rattle.mz_model.specs.Places.{list_below}
+use Rattle.mz_num.specs.Places.{list_below}
 use Rattle.mz_model.proofs.build.neighbours_by_unit.Given as goal
 
 abbrev pub invariant-loop-first : goal.invariant-loop-first

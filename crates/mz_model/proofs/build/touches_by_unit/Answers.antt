@@ -4,11 +4,11 @@ use Rattle.std.proofs.lemmas.List.Elements.{All-same}
 use Rattle.std.proofs.lemmas.Result.{IfOk-weaker}
 use Rattle.mz_model.specs.Built.{greatest_part_of}
 use Rattle.mz_model.specs.Parts.{unit_count, feature_count, target_at}
-use Rattle.mz_model.specs.Places.{list_below}
+use Rattle.mz_num.specs.Places.{list_below}
 use Rattle.mz_model.specs.Targets.{touches_of}
 use Rattle.mz_model.proofs.AmountLaws.{holders_of-in_range}
 use Rattle.mz_model.proofs.BuildLaws.{row-read, touches_upto, touches-done, touches-more}
-use Rattle.mz_model.proofs.PlaceLaws.{length-list_below}
+use Rattle.mz_num.proofs.PlaceLaws.{length-list_below}
 use Rattle.mz_model.proofs.build.touches_by_unit.Goals as goal
 
 pub at-requires : goal.at-requires

@@ -1,5 +1,5 @@
 use Rattle.std.proofs.Common.{◌≡◌}
-use Rattle.mz_model.specs.Places.{list_below}
+use Rattle.mz_num.specs.Places.{list_below}
 use Rattle.mz_model.specs.Zones.{allowed_zones}
 use Rattle.mz_model.proofs.build.zones_by_unit.Given as goal
 

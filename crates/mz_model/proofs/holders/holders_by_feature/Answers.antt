@@ -2,7 +2,7 @@ use Rattle.std.proofs.Common.{◌≡◌, ◌<◌, ◌∙◌, ℕ, map, take, ari
 use Rattle.std.proofs.lemmas.List.Elements.{All-get_or}
 use Rattle.std.proofs.lemmas.Result.{IfOk-weaker}
 use Rattle.mz_model.specs.Amounts.{holder_of, holders_of}
-use Rattle.mz_model.specs.Places.{list_below}
+use Rattle.mz_num.specs.Places.{list_below}
 use Rattle.mz_model.proofs.BuildLaws.{empty_lists, filled-none, holders-done, holders-more, length-empty-filled}
 use Rattle.mz_model.proofs.holders.holders_by_feature.Goals as goal
 

@@ -1,7 +1,7 @@
 use Rattle.std.proofs.Common.{◌≡◌, ◌∙◌, ap, sym, arith}
 use Rattle.std.specs.Prelude.{slice_index}
 use Rattle.mz_model.specs.Parts.{cost_at, unit_count}
-use Rattle.mz_model.specs.Places.{sum_below}
+use Rattle.mz_num.specs.Places.{sum_below}
 use Rattle.mz_model.proofs.ScoreLaws.{plan-in_range, cost_of_plan-is}
 use Rattle.mz_model.proofs.scoring.cost.Goals as goal
 

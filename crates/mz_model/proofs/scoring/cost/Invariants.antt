@@ -1,7 +1,7 @@
 use Rattle.std.proofs.Common.{◌≡◌, ◌*◌, ◌^◌, ◌≤◌}
 use Rattle.std.specs.Prelude.{slice_index}
 use Rattle.mz_model.specs.Parts.{cost_at}
-use Rattle.mz_model.specs.Places.{sum_below}
+use Rattle.mz_num.specs.Places.{sum_below}
 use Rattle.mz_model.proofs.scoring.cost.Given as goal
 
 abbrev pub invariant-loop-unit : goal.invariant-loop-unit

@@ -3,7 +3,7 @@ use Rattle.std.specs.Prelude.{slice_index}
 use Rattle.mz_model.specs.Boundary.{edge_term_of}
 use Rattle.mz_model.specs.Parts.{outer_at}
 use Rattle.mz_model.specs.Scores.{outer_term}
-use Rattle.mz_model.proofs.PlaceLaws.{sum_below-more}
+use Rattle.mz_num.proofs.PlaceLaws.{sum_below-more}
 use Rattle.mz_model.proofs.ScoreLaws.{plan-in_range, outer_term-is}
 use Rattle.mz_model.proofs.scoring.outer_boundary.Goals as goal
 

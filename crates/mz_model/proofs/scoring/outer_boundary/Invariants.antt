@@ -1,5 +1,5 @@
 use Rattle.std.proofs.Common.{◌≡◌, ◌*◌, ◌^◌, ◌≤◌}
-use Rattle.mz_model.specs.Places.{sum_below}
+use Rattle.mz_num.specs.Places.{sum_below}
 use Rattle.mz_model.specs.Scores.{outer_term}
 use Rattle.mz_model.proofs.scoring.outer_boundary.Given as goal
 

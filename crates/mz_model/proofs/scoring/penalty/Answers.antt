@@ -1,6 +1,6 @@
 use Rattle.std.proofs.Common.{◌≡◌, ◌∙◌, ap, sym, arith}
 use Rattle.mz_model.specs.Parts.{row_count}
-use Rattle.mz_model.specs.Places.{sum_below}
+use Rattle.mz_num.specs.Places.{sum_below}
 use Rattle.mz_model.specs.Scores.{penalty_term_of}
 use Rattle.mz_model.specs.Targets.{held_of}
 use Rattle.mz_model.proofs.ScoreLaws.{penalty_of_plan-is}

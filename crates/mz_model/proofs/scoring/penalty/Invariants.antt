@@ -1,5 +1,5 @@
 use Rattle.std.proofs.Common.{◌≡◌, ◌*◌, ◌^◌, ◌≤◌}
-use Rattle.mz_model.specs.Places.{sum_below}
+use Rattle.mz_num.specs.Places.{sum_below}
 use Rattle.mz_model.specs.Scores.{penalty_term_of}
 use Rattle.mz_model.specs.Targets.{held_of}
 use Rattle.mz_model.proofs.scoring.penalty.Given as goal

@@ -1,5 +1,5 @@
 use Rattle.std.proofs.Common.{◌≡◌, ◌/◌, ◌%◌}
-use Rattle.mz_model.specs.Places.{list_below}
+use Rattle.mz_num.specs.Places.{list_below}
 use Rattle.mz_project.specs.Boundaries.{default_boundary_cost}
 use Rattle.mz_project.proofs.boundaries.default_boundary_costs.Given as goal
 

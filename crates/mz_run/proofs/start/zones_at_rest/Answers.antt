@@ -1,5 +1,5 @@
 use Rattle.std.proofs.Common.{refl, arith}
-use Rattle.mz_model.proofs.PlaceLaws.{list_below-more}
+use Rattle.mz_num.proofs.PlaceLaws.{list_below-more}
 use Rattle.mz_run.specs.Start.{resting_zone}
 use Rattle.mz_run.proofs.StartLemmas.{resting_plan, resting_plan-legal}
 use Rattle.mz_run.proofs.start.zones_at_rest.Goals as goal

@@ -1,5 +1,5 @@
 use Rattle.std.proofs.Common.{◌≡◌}
-use Rattle.mz_model.specs.Places.{list_below}
+use Rattle.mz_num.specs.Places.{list_below}
 use Rattle.mz_run.specs.Start.{resting_zone}
 use Rattle.mz_run.proofs.start.zones_at_rest.Given as goal
 

@@ -1,5 +1,5 @@
 use Rattle.std.proofs.Common.{ℕ, List, arith, ap, length, ◌∙◌, ◌++◌}
-use Rattle.mz_rows.specs.Keyed.{list_below}
+use Rattle.mz_num.specs.Places.{list_below}
 use Rattle.mz_units.specs.Terms.{cost_term}
 use Rattle.mz_units.proofs.TermLemmas.{count-fits, terms-unit}
 use Rattle.mz_units.proofs.terms.cost_terms.Goals as goal

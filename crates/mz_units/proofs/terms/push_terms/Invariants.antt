@@ -1,5 +1,5 @@
 use Rattle.std.proofs.Common.{◌≡◌, ◌++◌}
-use Rattle.mz_rows.specs.Keyed.{list_below}
+use Rattle.mz_num.specs.Places.{list_below}
 use Rattle.mz_units.specs.Terms.{cost_term}
 use Rattle.mz_units.proofs.terms.push_terms.Given as goal
 

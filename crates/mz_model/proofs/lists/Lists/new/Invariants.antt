@@ -1,5 +1,5 @@
 use Rattle.std.proofs.Common.{◌≡◌, List, map, []}
-use Rattle.mz_model.specs.Places.{list_below}
+use Rattle.mz_num.specs.Places.{list_below}
 use Rattle.mz_model.proofs.lists.Lists.new.Given as goal
 
 abbrev pub invariant-loop : goal.invariant-loop

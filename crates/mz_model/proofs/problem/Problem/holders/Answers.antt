@@ -3,7 +3,7 @@ use Rattle.std.proofs.lemmas.List.Elements.{All-same}
 use Rattle.mz_model.specs.declared.parts.Parts.{Parts}
 use Rattle.mz_model.specs.Amounts.{holders_of}
 use Rattle.mz_model.specs.Parts.{feature_count, unit_count}
-use Rattle.mz_model.specs.Places.{list_below}
+use Rattle.mz_num.specs.Places.{list_below}
 use Rattle.mz_model.specs.Valid.{IsValid}
 use Rattle.mz_model.proofs.AmountLaws.{holders_of-in_range}
 use Rattle.mz_model.proofs.ListLaws.{IsRow, table-row}

@@ -3,7 +3,7 @@ use Rattle.std.proofs.lemmas.List.Elements.{All-same}
 use Rattle.mz_model.specs.declared.parts.Parts.{Parts}
 use Rattle.mz_model.specs.Boundary.{IsLength, neighbours_of}
 use Rattle.mz_model.specs.Parts.{unit_count}
-use Rattle.mz_model.specs.Places.{list_below}
+use Rattle.mz_num.specs.Places.{list_below}
 use Rattle.mz_model.specs.Valid.{IsValid}
 use Rattle.mz_model.proofs.ListLaws.{IsRow, table-row}
 use Rattle.mz_model.proofs.NeighbourLaws.{neighbours_of-in_range, neighbours_of-lengths, length-neighbours_of}

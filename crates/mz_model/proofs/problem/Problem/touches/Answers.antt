@@ -2,7 +2,7 @@ use Rattle.std.proofs.Common.{◌<◌, ◌∙◌, ap, sym, length, ℕ, arith}
 use Rattle.std.proofs.lemmas.List.Elements.{All-same}
 use Rattle.mz_model.specs.declared.parts.Parts.{Parts}
 use Rattle.mz_model.specs.Parts.{row_count, unit_count}
-use Rattle.mz_model.specs.Places.{list_below}
+use Rattle.mz_num.specs.Places.{list_below}
 use Rattle.mz_model.specs.Targets.{touches_of}
 use Rattle.mz_model.proofs.ListLaws.{IsRow, table-row}
 use Rattle.mz_model.proofs.TouchLaws.{touches_of-in_range, length-touches_of, length-touched_rows}

@@ -1,5 +1,5 @@
 use Rattle.std.proofs.Common.{◌≡◌}
-use Rattle.mz_model.specs.Places.{list_below}
+use Rattle.mz_num.specs.Places.{list_below}
 use Rattle.mz_model.proofs.tests.problems.first_ids.Given as goal
 
 abbrev pub invariant-loop-id : goal.invariant-loop-id

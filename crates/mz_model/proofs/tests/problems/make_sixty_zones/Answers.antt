@@ -9,8 +9,10 @@ use Rattle.mz_num.specs.Round.{round}
 use Rattle.mz_model.specs.declared.parts.Parts.{Parts}
 use Rattle.mz_model.specs.Boundary.{greatest_rate, IsLength}
 use Rattle.mz_model.specs.Parts.{rate_at}
-use Rattle.mz_model.specs.Places.{list_below}
-use Rattle.mz_model.specs.Valid.{AreDistinct, IsBefore, IsInShape, IsSmall, IsValid, IsWithinLimits, IsZoneSet}
+use Rattle.mz_num.specs.Places.{list_below}
+use Rattle.mz_num.specs.Order.{IsBefore}
+use Rattle.mz_num.specs.ZoneSet.{IsZoneSet}
+use Rattle.mz_model.specs.Valid.{AreDistinct, IsInShape, IsSmall, IsValid, IsWithinLimits}
 use Rattle.mz_model.proofs.ExampleLaws.{same_parts}
 use Rattle.mz_model.proofs.tests.problems.make_sixty_zones.Goals as goal
 

@@ -1,5 +1,5 @@
 use Rattle.std.proofs.Common.{◌≡◌, ◌++◌}
-use Rattle.mz_model.specs.Places.{list_below}
+use Rattle.mz_num.specs.Places.{list_below}
 use Rattle.mz_project.specs.Parts.{overall_level}
 use Rattle.mz_project.proofs.limits.levels.push_overall_levels.Given as goal
 

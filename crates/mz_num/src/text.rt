@@ -1,11 +1,11 @@
 //! Texts put together from pieces.
 ghost use Rattle.std.specs.Prelude.{◌≡◌, ◌++◌, decimal, OnOk};
 
+use crate::memory::NoMemory;
 use itoa::Buffer;
-use mz_num::NoMemory;
 
 /// Appends a number in decimal digits.
-pub(crate) fn push_number(text: &mut Vec<u8>, number: u64) -> Result<(), NoMemory>
+pub fn push_number(text: &mut Vec<u8>, number: u64) -> Result<(), NoMemory>
     ensures { OnOk result (text.new.items ≡ text.old.items ++ decimal number) }
 {
     let mut buffer = Buffer::new();
@@ -14,7 +14,7 @@ pub(crate) fn push_number(text: &mut Vec<u8>, number: u64) -> Result<(), NoMemor
 }
 
 /// Appends bytes.
-pub(crate) fn push_bytes(text: &mut Vec<u8>, bytes: &[u8]) -> Result<(), NoMemory>
+pub fn push_bytes(text: &mut Vec<u8>, bytes: &[u8]) -> Result<(), NoMemory>
     ensures { OnOk result (text.new.items ≡ text.old.items ++ bytes.now) }
 {
     text.extend_from_slice(bytes)?;

@@ -1,7 +1,7 @@
 //! A list with room that was reserved for it.
 ghost use Rattle.std.specs.Prelude.{◌≡◌, ◌<◌, ◌≤◌, ◌++◌, ◌∷◌, [], IfOk, length, vec_capacity};
 
-use mz_num::NoMemory;
+use crate::memory::NoMemory;
 use std::alloc::Global;
 use std::marker::Model;
 
@@ -14,7 +14,7 @@ pub struct Filled<T: Copy> {
 
 impl<T: Copy> Model for Filled<T> {
     ghost use Rattle.std.specs.Prelude.{length, vec_capacity};
-    ghost use Rattle.mz_delta.specs.WithRoom.{WithRoom};
+    ghost use Rattle.mz_num.specs.WithRoom.{WithRoom};
 
     ghost Value = { WithRoom T };
 
@@ -65,8 +65,8 @@ impl<T: Copy> Filled<T> {
     pub fn push(&mut self, item: T)
         requires { length self.old.items < self.old.room }
         ensures items { self.new.items ≡ self.old.items ++ item ∷ [] }
-        ensures room { self.old.room ≤ self.new.room }
+        ensures room { self.new.room ≡ self.old.room }
     {
-        let _ = self.items.push(item);
+        self.items.push_reserved(item);
     }
 }

@@ -1,13 +1,14 @@
 -- Laws of sums, greatest values and lists over the places below a number.
-use Rattle.std.proofs.Common.{◌≡◌, ℕ, zero, suc, ◌+◌, ◌*◌, ◌<◌, ◌≤◌, max, Bool, true, false, cond, List, [], ◌∷◌, ◌++◌, length, get_or, refl, ap, sym, ◌∙◌, subst, add-one, arith, inl, inr, ◌==◌}
+use Rattle.std.proofs.Common.{◌≡◌, ℕ, zero, suc, ◌+◌, ◌*◌, ◌<◌, ◌≤◌, max, Bool, true, false, cond, List, [], ◌∷◌, ◌++◌, length, get_or, set, refl, ap, sym, ◌∙◌, subst, add-one, arith, inl, inr, ◌==◌}
 use Rattle.std.specs.List.{All, AllPairs, Contains, range_with_len, count_by, position_or_len}
 use Rattle.std.proofs.lemmas.Bool.{cases_eq, cases_lt, cond-true, cond-false, eqb-true, eq-eqb, both_ways}
-use Rattle.std.proofs.lemmas.List.{append-nil, map-id}
+use Rattle.std.proofs.Math.ListN.{length-set, replicate}
+use Rattle.std.proofs.lemmas.List.{append-nil, get_or-replicate, get_or-set_other, get_or-set_same, length-replicate, map-id}
 use Rattle.std.proofs.lemmas.List.Elements.{All-nil, All-cons, All-head, All-tail, All-filter, All-from_get_or, filter_passes, Contains-push, Contains-append_left}
 use Rattle.std.proofs.lemmas.List.FromFn.{length-map-range_with_len, get_or-map-range_with_len, map-range_with_len_more, fill_by_all, filter_of_map_range_with_len_more, length-range_with_len, get_or-range_with_len}
 use Rattle.std.proofs.lemmas.List.Quantifiers.{all_pairs_push}
 use Rattle.std.proofs.lemmas.List.Sums.{length-filter, count_by-le-length, passes_at_first, fails_before_first}
-use Rattle.mz_model.specs.Places.{sum_below, greatest_below, list_below, places_below, values_at}
+use Rattle.mz_num.specs.Places.{sum_below, greatest_below, list_below, places_below, values_at}
 
 -- ---- sums
 
@@ -69,6 +70,20 @@ list_below-from n f xs d len at = fill_by_all f xs n d len at
 
 pub list_below-same : {X : Type 0} (n : ℕ) (f g : ℕ → X) (d : X) → ((k : ℕ) → k < n → f k ≡ g k) → list_below n f ≡ list_below n g
 list_below-same n f g d same = list_below-from n g (list_below n f) d (length-list_below n f) (λ k h. get_or-list_below n k f d h ∙ same k h)
+
+-- a list of one value, where f gives it at each place
+pub replicate-list_below : {X : Type 0} (n : ℕ) (f : ℕ → X) (x d : X) → ((k : ℕ) → k < n → x ≡ f k) → replicate n x ≡ list_below n f
+replicate-list_below n f x d same = list_below-from n f (replicate n x) d (length-replicate n x) (λ k h. get_or-replicate n k x d h ∙ same k h)
+
+-- the list after a change at one place
+pub list_below-set : {X : Type 0} (n i : ℕ) (f g : ℕ → X) (x d : X) → i < n → x ≡ g i → ((k : ℕ) → k < n → (k ≡ i → ⊥) → f k ≡ g k) → set (list_below n f) i x ≡ list_below n g
+list_below-set {X} n i f g x d h here there =
+    let len : length (list_below n f) ≡ n = length-list_below n f in
+    list_below-from n g (set (list_below n f) i x) d (length-set (list_below n f) i x ∙ len)
+    (λ k below. elim (cases_eq k i) [
+      | inl e ↦ (ap (λ j. get_or (set (list_below n f) i x) j d) e ∙ get_or-set_same (list_below n f) i x d (omega arith) ∙ here ∙ ap g (sym e))
+      | inr other ↦ (get_or-set_other (list_below n f) i k x d other ∙ get_or-list_below n k f d below ∙ there k below other)
+    ])
 
 -- ---- places that pass a test
 
