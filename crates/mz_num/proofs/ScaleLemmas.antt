@@ -4,8 +4,7 @@ use Rattle.std.proofs.Math.Nat.{one-le-pow, pow-le-pow_right, mul-le-mul_left, m
 use Rattle.std.proofs.lemmas.Nat.{pow-add}
 use Rattle.std.proofs.lemmas.Bool.{lt-ltb, le-ltb}
 use Rattle.mz_num.specs.Round.{round}
-use Rattle.mz_num.specs.NumberText.{at_most, scaled_value}
-use Rattle.mz_num.specs.declared.number.Number.{Number}
+use Rattle.mz_num.specs.NumberText.{at_most, scaled_value, WrittenNumber}
 use Rattle.mz_num.specs.declared.fault.NumFault.TheVariants.{TooLarge}
 use Rattle.mz_num.proofs.RoundLaws.{round-multiple}
 
@@ -42,7 +41,7 @@ round-mul_both p q c positive =
     rw (above, below) (mul-div-mul_right (2 * p + q) (2 * q) positive)
 
 -- the value where the point moves to the right, to the left, and of 0
-pub value_raised : (scale : ℕ) (n : Number) (places : ℕ) → n.raised + scale ≡ places + n.lowered → scaled_value scale n ≡ n.mantissa * 10 ^ places
+pub value_raised : (scale : ℕ) (n : WrittenNumber) (places : ℕ) → n.raised + scale ≡ places + n.lowered → scaled_value scale n ≡ n.mantissa * 10 ^ places
 unfolding scaled_value
 value_raised scale n places e =
     let split : 10 ^ (n.raised + scale) ≡ 10 ^ places * 10 ^ n.lowered = ap (λ k. 10 ^ k) e ∙ pow-add 10 places n.lowered in
@@ -50,14 +49,14 @@ value_raised scale n places e =
     let whole : n.mantissa * 10 ^ (n.raised + scale) ≡ n.mantissa * 10 ^ places * 10 ^ n.lowered = grind (arith, split) in
     ap (λ p. round p (10 ^ n.lowered)) whole ∙ round-multiple (n.mantissa * 10 ^ places) (10 ^ n.lowered) positive
 
-pub value_lowered : (scale : ℕ) (n : Number) (places : ℕ) → n.lowered ≡ places + (n.raised + scale) → scaled_value scale n ≡ round n.mantissa (10 ^ places)
+pub value_lowered : (scale : ℕ) (n : WrittenNumber) (places : ℕ) → n.lowered ≡ places + (n.raised + scale) → scaled_value scale n ≡ round n.mantissa (10 ^ places)
 unfolding scaled_value
 value_lowered scale n places e =
     let split : 10 ^ n.lowered ≡ 10 ^ places * 10 ^ (n.raised + scale) = ap (λ k. 10 ^ k) e ∙ pow-add 10 places (n.raised + scale) in
     let positive : 0 < 10 ^ (n.raised + scale) = one-le-pow (n.raised + scale) 10 (omega arith) in
     ap (λ q. round (n.mantissa * 10 ^ (n.raised + scale)) q) split ∙ round-mul_both n.mantissa (10 ^ places) (10 ^ (n.raised + scale)) positive
 
-pub value_zero : (scale : ℕ) (n : Number) → n.mantissa ≡ 0 → scaled_value scale n ≡ 0
+pub value_zero : (scale : ℕ) (n : WrittenNumber) → n.mantissa ≡ 0 → scaled_value scale n ≡ 0
 unfolding scaled_value
 value_zero scale n e =
     let positive : 0 < 10 ^ n.lowered = one-le-pow n.lowered 10 (omega arith) in

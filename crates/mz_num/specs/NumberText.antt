@@ -7,8 +7,18 @@ use Rattle.mz_num.specs.Limits.{greatest_quantity}
 use Rattle.mz_num.specs.Round.{round}
 use Rattle.mz_num.specs.declared.fault.NumFault.{NumFault}
 use Rattle.mz_num.specs.declared.fault.NumFault.TheVariants.{Empty, NotANumber, Negative, TooLarge}
-use Rattle.mz_num.specs.declared.number.Number.{Number}
-use Rattle.mz_num.specs.declared.number.Power.{Power}
+
+-- a number as it is written: its value is `mantissa * 10^raised / 10^lowered`, below 0 where it is negative
+pub record WrittenNumber : Type 0 where
+  pub negative : Bool
+  pub mantissa : ℕ
+  pub raised : ℕ
+  pub lowered : ℕ
+
+-- by how many places of ten an exponent raises a number, and by how many it lowers it
+pub record PowerOfTen : Type 0 where
+  pub raised : ℕ
+  pub lowered : ℕ
 
 -- a minus sign stands first
 abbrev pub has_minus : List ℕ → Bool
@@ -28,13 +38,13 @@ abbrev pub is_point : ℕ → Bool
 is_point b = b == 46
 
 -- the power of an exponent whose sign is a minus or not
-abbrev pub power_of : Bool → Option ℕ → Option Power
+abbrev pub power_of : Bool → Option ℕ → Option PowerOfTen
 power_of minus None = None
 power_of true (Some n) = Some (record { raised = 0; lowered = n })
 power_of false (Some n) = Some (record { raised = n; lowered = 0 })
 
 -- what stands from the mark of the exponent on: nothing, or the mark, a sign and one to four digits
-abbrev pub exponent_of : List ℕ → Option Power
+abbrev pub exponent_of : List ℕ → Option PowerOfTen
 exponent_of [] = Some (record { raised = 0; lowered = 0 })
 exponent_of (mark ∷ text) = power_of (has_minus text) (digits_number 4 (behind_sign text))
 
@@ -47,21 +57,21 @@ abbrev pub decimals_of : List ℕ → ℕ
 decimals_of text = length (after_first is_point text)
 
 -- a number of its parts
-abbrev pub number_of : Bool → ℕ → Option ℕ → Option Power → Option Number
+abbrev pub number_of : Bool → ℕ → Option ℕ → Option PowerOfTen → Option WrittenNumber
 number_of minus decimals None power = None
 number_of minus decimals (Some mantissa) None = None
 number_of minus decimals (Some mantissa) (Some power) = Some (record { negative = minus; mantissa = mantissa; raised = power.raised; lowered = decimals + power.lowered })
 
 -- a mantissa and an exponent without the sign before them
-abbrev pub number_behind : Bool → List ℕ → Option Number
+abbrev pub number_behind : Bool → List ℕ → Option WrittenNumber
 number_behind minus text = let mantissa = before_first is_mark text in number_of minus (decimals_of mantissa) (mantissa_of mantissa) (exponent_of (drop (position_or_len is_mark text) text))
 
 -- the number that a text writes: a sign, a mantissa and an exponent
-unfoldable pub number_in : List ℕ → Option Number
+unfoldable pub number_in : List ℕ → Option WrittenNumber
 number_in text = number_behind (has_minus text) (behind_sign text)
 
 -- the exact value times a power of ten, rounded half up
-unfoldable pub scaled_value : ℕ → Number → ℕ
+unfoldable pub scaled_value : ℕ → WrittenNumber → ℕ
 scaled_value scale n = round (n.mantissa * 10 ^ (n.raised + scale)) (10 ^ n.lowered)
 
 -- the value, where it is no greater than the greatest that is taken
@@ -73,7 +83,7 @@ abbrev pub unsigned_value : Bool → ℕ → Result ℕ NumFault → Result ℕ 
 unsigned_value minus magnitude value = (if minus && nat_lt 0 magnitude then Err Negative else value)
 
 -- the value of a text at a scale, or its first fault
-abbrev pub scaled_answer : ℕ → Option Number → Result ℕ NumFault
+abbrev pub scaled_answer : ℕ → Option WrittenNumber → Result ℕ NumFault
 scaled_answer scale None = Err NotANumber
 scaled_answer scale (Some n) = unsigned_value n.negative n.mantissa (at_most greatest_quantity (scaled_value scale n))
 

@@ -27,3 +27,6 @@ pub use scaled::{Mic6, Ten4};
 pub use sequence::{Items, Text};
 pub use text::{push_bytes, push_number};
 pub use write::write_ten4;
+
+#[cfg(test)]
+mod tests;

@@ -5,6 +5,7 @@ ghost use Rattle.mz_num.specs.Digits.{digits_number};
 ghost use Rattle.mz_num.specs.NumberText.{has_minus, behind_sign, is_mark, is_point, exponent_of, number_in};
 
 use crate::digits::{more_digits, read_digits};
+use std::marker::Model;
 
 /// A number as it is written. Its value is `mantissa * 10^raised / 10^lowered`, below 0 where it
 /// is negative.
@@ -16,11 +17,31 @@ pub(crate) struct Number {
     pub(crate) lowered: u32,
 }
 
+impl Model for Number {
+    ghost use Rattle.mz_num.specs.NumberText.{WrittenNumber};
+
+    ghost Value = { WrittenNumber };
+
+    ghost view = { λ n. record { negative = n.negative; mantissa = n.mantissa; raised = n.raised; lowered = n.lowered } };
+
+    ghost inverse = { λ n. record { negative = n.negative; mantissa = n.mantissa; raised = n.raised; lowered = n.lowered } };
+}
+
 /// A power of ten: by how many places it raises a number, and by how many it lowers it.
 #[derive(Clone, Copy)]
 pub(crate) struct Power {
     pub(crate) raised: u32,
     pub(crate) lowered: u32,
+}
+
+impl Model for Power {
+    ghost use Rattle.mz_num.specs.NumberText.{PowerOfTen};
+
+    ghost Value = { PowerOfTen };
+
+    ghost view = { λ p. record { raised = p.raised; lowered = p.lowered } };
+
+    ghost inverse = { λ p. record { raised = p.raised; lowered = p.lowered } };
 }
 
 /// The number that a text writes; none where the text is outside the grammar.
