@@ -7,10 +7,10 @@ use Rattle.std.proofs.lemmas.Bool.Decides.{nat_tests}
 use Rattle.std.proofs.lemmas.List.Elements.{All-map}
 use Rattle.std.proofs.lemmas.List.Sums.{sum_by-cons, get_or-le-sum_by}
 use Rattle.std.proofs.lemmas.List.Sorted.{sorted_far, sum_by-IsPermutation, IsPermutation-map}
-use Rattle.mz_penalty.specs.declared.holders.Holder.{Holder}
-use Rattle.mz_penalty.specs.Order.{Holding, comes_before}
-use Rattle.mz_penalty.specs.Base.{base_of, holdings}
-use Rattle.mz_penalty.specs.Ordered.{holding, cost_until}
+use Rattle.mz_penalty.specs.declared.holder.Holder.{Holder}
+use Rattle.mz_penalty.specs.Order.{HeldAmount, comes_before}
+use Rattle.mz_penalty.specs.Base.{base_of, cost_taken, held_by}
+use Rattle.mz_penalty.specs.Ordered.{base_until, held}
 use Rattle.mz_penalty.proofs.OrderLemmas.{before_from_not, units_are_ordered}
 use Rattle.mz_penalty.proofs.PlaceLemmas.{at_place, places-once, costs-le}
 use Rattle.mz_penalty.proofs.SumLemmas.{sum_by-map}
@@ -21,39 +21,41 @@ apart : (place other rest whole : ℕ) → whole ≡ at_place place place + rest
 apart place other rest whole e few there same = grind (arith, nat_tests)
 
 -- units that are sorted, no two at one place, are in order
-pub sorted-in_order : (units : List Holder) → ((i j : ℕ) (d : Holder) → i ≤ j → j < length units → comes_before (holding (get_or units j d)) (holding (get_or units i d)) ≡ false) → ((place : ℕ) → sum_by (λ (unit : Holder). at_place place unit.place) units ≤ 1) → IsInOrder (map holding units)
+pub sorted-in_order : (units : List Holder) → ((i j : ℕ) (d : Holder) → i ≤ j → j < length units → comes_before (held (get_or units j d)) (held (get_or units i d)) ≡ false) → ((place : ℕ) → sum_by (λ (unit : Holder). at_place place unit.place) units ≤ 1) → IsInOrder (map held units)
 sorted-in_order [] far once = tt
 sorted-in_order (unit ∷ units) far once = (
-  All-map (λ other. (comes_before (holding unit) other ≡ true) × (comes_before other (holding unit) ≡ false)) holding units
+  All-map (λ other. (comes_before (held unit) other ≡ true) × (comes_before other (held unit) ≡ false)) held units
       (λ k d h.
-      let later : comes_before (holding (get_or units k d)) (holding unit) ≡ false = far 0 (suc k) d (omega arith) (omega arith) in
+      let later : comes_before (held (get_or units k d)) (held unit) ≡ false = far 0 (suc k) d (omega arith) (omega arith) in
       let other : unit.place ≡ (get_or units k d).place → ⊥ =
       apart unit.place (get_or units k d).place (sum_by (λ (o : Holder). at_place unit.place o.place) units) (sum_by (λ (o : Holder). at_place unit.place o.place) (unit ∷ units))
       (sum_by-cons (λ (o : Holder). at_place unit.place o.place) unit units) (once unit.place)
       (get_or-le-sum_by (λ (o : Holder). at_place unit.place o.place) units k d h) in
-      (before_from_not (holding unit) (holding (get_or units k d)) other later, later)),
+      (before_from_not (held unit) (held (get_or units k d)) other later, later)),
   sorted-in_order units (λ i j d below within. far (suc i) (suc j) d (omega arith) (omega arith))
       (λ place. let whole = sum_by-cons (λ (o : Holder). at_place place o.place) unit units in let few = once place in omega arith),
 )
 
 -- units in another order hold what they held
-pub holdings_moved : (units ordered : List Holder) (held : List Holding) → map holding units ≡ held → IsPermutation units ordered → IsPermutation held (map holding ordered)
-holdings_moved units ordered held e same = subst (λ hs. IsPermutation hs (map holding ordered)) e (IsPermutation-map holding units ordered same)
+pub held_moved : (units ordered : List Holder) (whole : List HeldAmount) → map held units ≡ whole → IsPermutation units ordered → IsPermutation whole (map held ordered)
+held_moved units ordered whole e same = subst (λ hs. IsPermutation hs (map held ordered)) e (IsPermutation-map held units ordered same)
 
 -- a sum over the units and over what they hold in another order
-sum-of_units : (f : Holding → ℕ) (held : List Holding) (ordered : List Holder) → IsPermutation held (map holding ordered) → sum_by (λ unit. f (holding unit)) ordered ≡ sum_by f held
-sum-of_units f held ordered same = sym (sum_by-map f holding ordered) ∙ sum_by-IsPermutation f held (map holding ordered) same
+sum-of_units : (f : HeldAmount → ℕ) (whole : List HeldAmount) (ordered : List Holder) → IsPermutation whole (map held ordered) → sum_by (λ unit. f (held unit)) ordered ≡ sum_by f whole
+sum-of_units f whole ordered same = sym (sum_by-map f held ordered) ∙ sum_by-IsPermutation f whole (map held ordered) same
 
-pub costs_fit : (raw : List ℕ) (amounts : List (ℕ × ℕ)) (ordered : List Holder) (most : ℕ) → All (λ (unit : ℕ × ℕ). unit.0 < length raw) amounts → IsStrictlyIncreasing (map (λ (unit : ℕ × ℕ). unit.0) amounts) → sum raw ≤ most → IsPermutation (holdings raw amounts) (map holding ordered) → sum_by (λ unit. unit.cost) ordered ≤ most
+pub costs_fit : (raw : List ℕ) (amounts : List (ℕ × ℕ)) (ordered : List Holder) (most : ℕ) → All (λ (unit : ℕ × ℕ). unit.0 < length raw) amounts → IsStrictlyIncreasing (map (λ (unit : ℕ × ℕ). unit.0) amounts) → sum raw ≤ most → IsPermutation (held_by raw amounts) (map held ordered) → sum_by (λ unit. unit.cost) ordered ≤ most
 costs_fit raw amounts ordered most within rising small same =
-    let there = sum-of_units (λ unit. unit.cost) (holdings raw amounts) ordered same in
+    let there = sum-of_units (λ unit. unit.cost) (held_by raw amounts) ordered same in
     let part = costs-le raw amounts within rising in
     omega arith
 
-pub base_is : (raw : List ℕ) (amounts : List (ℕ × ℕ)) (level : ℕ) (ordered : List Holder) (cost : ℕ) → IsStrictlyIncreasing (map (λ (unit : ℕ × ℕ). unit.0) amounts) → IsPermutation (holdings raw amounts) (map holding ordered) → IsSortedBy (λ a b. comes_before (holding a) (holding b)) ordered → cost ≡ cost_until level (map holding ordered) → max cost 10000 ≡ base_of raw amounts level
+-- the bases by level, as one function
+pub bases_are : (raw : List ℕ) (amounts : List (ℕ × ℕ)) (ordered : List Holder) → IsStrictlyIncreasing (map (λ (unit : ℕ × ℕ). unit.0) amounts) → IsPermutation (held_by raw amounts) (map held ordered) → IsSortedBy (λ a b. comes_before (held a) (held b)) ordered → base_until (map held ordered) ≡ base_of raw amounts
 unfolding base_of
-base_is raw amounts level ordered cost rising same sorted is =
+bases_are raw amounts ordered rising same sorted =
     let once : (place : ℕ) → sum_by (λ (unit : Holder). at_place place unit.place) ordered ≤ 1 =
-    λ place. subst (λ n. n ≤ 1) (sym (sum-of_units (λ unit. at_place place unit.place) (holdings raw amounts) ordered same)) (places-once raw amounts rising place) in
-    let order : IsInOrder (map holding ordered) = sorted-in_order ordered (sorted_far (λ a b. comes_before (holding a) (holding b)) units_are_ordered ordered sorted) once in
-    ap (λ n. max n 10000) (is ∙ cost_taken-in_order (holdings raw amounts) (map holding ordered) level same order)
+    λ place. subst (λ n. n ≤ 1) (sym (sum-of_units (λ unit. at_place place unit.place) (held_by raw amounts) ordered same)) (places-once raw amounts rising place) in
+    let order : IsInOrder (map held ordered) = sorted-in_order ordered (sorted_far (λ a b. comes_before (held a) (held b)) units_are_ordered ordered sorted) once in
+    let each : (level : ℕ) → base_until (map held ordered) level ≡ max (cost_taken (held_by raw amounts) level) 10000 = λ level. ap (λ n. max n 10000) (cost_taken-in_order (held_by raw amounts) (map held ordered) level same order) in
+    λ i level. each level i

@@ -3,9 +3,9 @@ use Rattle.std.proofs.Common.{◌≡◌, ℕ, ◌*◌, ◌≤◌, true, false, a
 use Rattle.std.proofs.Math.Nat.{mul-le-mul_right, le_of_mul-le-mul_right}
 use Rattle.std.proofs.lemmas.Bool.Decides.{nat_tests}
 use Rattle.std.specs.Cmp.{IsStrictWeakOrder}
-use Rattle.mz_penalty.specs.declared.holders.Holder.{Holder}
-use Rattle.mz_penalty.specs.Order.{Holding, comes_before}
-use Rattle.mz_penalty.specs.Ordered.{holding}
+use Rattle.mz_penalty.specs.declared.holder.Holder.{Holder}
+use Rattle.mz_penalty.specs.Order.{HeldAmount, comes_before}
+use Rattle.mz_penalty.specs.Ordered.{held}
 
 -- quotients that don't rise from a first to a second and on to a third
 pub cross_chain : (c a d b e f : ℕ) → 1 ≤ b → d * a ≤ c * b → e * b ≤ d * f → e * a ≤ c * f
@@ -16,16 +16,16 @@ cross_chain c a d b e f positive first second =
     le_of_mul-le-mul_right w positive
 
 -- what it says that a unit doesn't come before another
-pub not_before : (x y : Holding) → comes_before x y ≡ false → (y.cost * x.amount ≤ x.cost * y.amount) × (x.cost * y.amount ≡ y.cost * x.amount → y.place ≤ x.place)
+pub not_before : (x y : HeldAmount) → comes_before x y ≡ false → (y.cost * x.amount ≤ x.cost * y.amount) × (x.cost * y.amount ≡ y.cost * x.amount → y.place ≤ x.place)
 not_before x y h = (grind (arith, nat_tests), λ e. grind (arith, nat_tests))
 
-pub not_before-from : (x y : Holding) → y.cost * x.amount ≤ x.cost * y.amount → (x.cost * y.amount ≡ y.cost * x.amount → y.place ≤ x.place) → comes_before x y ≡ false
+pub not_before-from : (x y : HeldAmount) → y.cost * x.amount ≤ x.cost * y.amount → (x.cost * y.amount ≡ y.cost * x.amount → y.place ≤ x.place) → comes_before x y ≡ false
 not_before-from x y no_less by_place = grind (arith, nat_tests)
 
-pub one_way : (x y : Holding) → comes_before x y ≡ true → comes_before y x ≡ false
+pub one_way : (x y : HeldAmount) → comes_before x y ≡ true → comes_before y x ≡ false
 one_way x y h = grind (arith, nat_tests)
 
-pub chain : (x y z : Holding) → 1 ≤ x.amount → 1 ≤ y.amount → 1 ≤ z.amount → comes_before x y ≡ false → comes_before y z ≡ false → comes_before x z ≡ false
+pub chain : (x y z : HeldAmount) → 1 ≤ x.amount → 1 ≤ y.amount → 1 ≤ z.amount → comes_before x y ≡ false → comes_before y z ≡ false → comes_before x z ≡ false
 chain x y z p q r h k =
     let u = not_before x y h in
     let v = not_before y z k in
@@ -39,11 +39,11 @@ chain x y z p q r h k =
     omega arith)
 
 -- of two units at different places one comes before the other
-pub before_from_not : (x y : Holding) → (x.place ≡ y.place → ⊥) → comes_before y x ≡ false → comes_before x y ≡ true
+pub before_from_not : (x y : HeldAmount) → (x.place ≡ y.place → ⊥) → comes_before y x ≡ false → comes_before x y ≡ true
 before_from_not x y apart h = grind (arith, nat_tests)
 
-pub units_are_ordered : IsStrictWeakOrder (λ (a b : Holder). comes_before (holding a) (holding b))
+pub units_are_ordered : IsStrictWeakOrder (λ (a b : Holder). comes_before (held a) (held b))
 units_are_ordered = record {
-  one_way = λ x y h. one_way (holding x) (holding y) h;
-  chain = λ x y z h k. chain (holding x) (holding y) (holding z) x.positive y.positive z.positive h k;
+  one_way = λ x y h. one_way (held x) (held y) h;
+  chain = λ x y z h k. chain (held x) (held y) (held z) x.positive y.positive z.positive h k;
 }

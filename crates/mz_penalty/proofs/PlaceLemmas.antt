@@ -8,8 +8,8 @@ use Rattle.std.proofs.lemmas.List.{drop-drop}
 use Rattle.std.proofs.lemmas.List.Sums.{sum_by-cons, sum_by-drop_more, sum_by-take-drop}
 use Rattle.std.proofs.lemmas.List.Elements.{All-head, All-tail, All-map}
 use Rattle.std.proofs.lemmas.List.Kept.{AllPairs-from_increasing}
-use Rattle.mz_penalty.specs.Order.{Holding}
-use Rattle.mz_penalty.specs.Base.{holdings}
+use Rattle.mz_penalty.specs.Order.{HeldAmount}
+use Rattle.mz_penalty.specs.Base.{held_by}
 use Rattle.mz_penalty.proofs.SumLemmas.{sum_by-map, sum_by-nothing, sum_by-same}
 
 -- 1 at a place, and 0 elsewhere
@@ -64,17 +64,17 @@ values-le xs low (n ∷ ns) from within pairs =
     omega arith
 
 -- so of units whose places rise no two have the same
-pub places-once : (raw : List ℕ) (amounts : List (ℕ × ℕ)) → IsStrictlyIncreasing (map (λ (unit : ℕ × ℕ). unit.0) amounts) → (place : ℕ) → sum_by (λ (unit : Holding). at_place place unit.place) (holdings raw amounts) ≤ 1
+pub places-once : (raw : List ℕ) (amounts : List (ℕ × ℕ)) → IsStrictlyIncreasing (map (λ (unit : ℕ × ℕ). unit.0) amounts) → (place : ℕ) → sum_by (λ (unit : HeldAmount). at_place place unit.place) (held_by raw amounts) ≤ 1
 places-once raw amounts rising place =
     let few = once place (map (λ (unit : ℕ × ℕ). unit.0) amounts) (AllPairs-from_increasing _ rising) in
-    let there = sum_by-map (λ (unit : Holding). at_place place unit.place) (λ (unit : ℕ × ℕ). record { place = unit.0; cost = slice_index raw unit.0; amount = unit.1 }) amounts in
+    let there = sum_by-map (λ (unit : HeldAmount). at_place place unit.place) (λ (unit : ℕ × ℕ). record { place = unit.0; cost = slice_index raw unit.0; amount = unit.1 }) amounts in
     let here = sum_by-map (at_place place) (λ (unit : ℕ × ℕ). unit.0) amounts in
     omega arith
 
 -- and their costs are a part of all costs
-pub costs-le : (raw : List ℕ) (amounts : List (ℕ × ℕ)) → All (λ (unit : ℕ × ℕ). unit.0 < length raw) amounts → IsStrictlyIncreasing (map (λ (unit : ℕ × ℕ). unit.0) amounts) → sum_by (λ (unit : Holding). unit.cost) (holdings raw amounts) ≤ sum raw
+pub costs-le : (raw : List ℕ) (amounts : List (ℕ × ℕ)) → All (λ (unit : ℕ × ℕ). unit.0 < length raw) amounts → IsStrictlyIncreasing (map (λ (unit : ℕ × ℕ). unit.0) amounts) → sum_by (λ (unit : HeldAmount). unit.cost) (held_by raw amounts) ≤ sum raw
 costs-le raw amounts within rising =
     let part = values-le raw 0 (map (λ (unit : ℕ × ℕ). unit.0) amounts) (λ k d h. omega arith) (All-map (λ n. n < length raw) (λ (unit : ℕ × ℕ). unit.0) amounts within) (AllPairs-from_increasing _ rising) in
-    let there = sum_by-map (λ (unit : Holding). unit.cost) (λ (unit : ℕ × ℕ). record { place = unit.0; cost = slice_index raw unit.0; amount = unit.1 }) amounts in
+    let there = sum_by-map (λ (unit : HeldAmount). unit.cost) (λ (unit : ℕ × ℕ). record { place = unit.0; cost = slice_index raw unit.0; amount = unit.1 }) amounts in
     let here = sum_by-map (λ n. slice_index raw n) (λ (unit : ℕ × ℕ). unit.0) amounts in
     omega arith

@@ -6,31 +6,31 @@ use Rattle.std.specs.List.Sorted.{IsPermutation}
 use Rattle.std.proofs.lemmas.Bool.Decides.{nat_tests}
 use Rattle.std.proofs.lemmas.List.Sums.{sum_by-cons}
 use Rattle.std.proofs.lemmas.List.Sorted.{sum_by-IsPermutation}
-use Rattle.mz_penalty.specs.Order.{Holding, comes_before}
+use Rattle.mz_penalty.specs.Order.{HeldAmount, comes_before}
 use Rattle.mz_penalty.specs.Base.{is_taken, cost_taken}
 use Rattle.mz_penalty.specs.Ordered.{cost_until}
 use Rattle.mz_penalty.proofs.SumLemmas.{part, sum_by-nothing, sum_by-same, sum_by-filter}
 
 -- each unit of the list comes before those behind it
-abbrev pub IsInOrder : List Holding → Type 0
+abbrev pub IsInOrder : List HeldAmount → Type 0
 IsInOrder [] = Unit {0}
 IsInOrder (unit ∷ units) = All (λ other. (comes_before unit other ≡ true) × (comes_before other unit ≡ false)) units × IsInOrder units
 
 -- the sums of the definition, without its filters
-abbrev before : List Holding → Holding → ℕ
+abbrev before : List HeldAmount → HeldAmount → ℕ
 before all unit = sum_by (part (λ other. comes_before other unit) (λ other. other.amount)) all
 
-abbrev cost_within : (Holding → ℕ) → ℕ → Holding → ℕ
+abbrev cost_within : (HeldAmount → ℕ) → ℕ → HeldAmount → ℕ
 cost_within reached level unit = cond (nat_lt (reached unit) level) unit.cost 0
 
-pub cost_taken-parts : (all : List Holding) (level : ℕ) → cost_taken all level ≡ sum_by (cost_within (before all) level) all
+pub cost_taken-parts : (all : List HeldAmount) (level : ℕ) → cost_taken all level ≡ sum_by (cost_within (before all) level) all
 cost_taken-parts all level =
     sum_by-filter (is_taken all level) (λ unit. unit.cost) all
     ∙ sum_by-same (part (is_taken all level) (λ unit. unit.cost)) (cost_within (before all) level) all
     (λ k d h. ap (λ n. cond (nat_lt n level) (get_or all k d).cost 0) (sum_by-filter (λ other. comes_before other (get_or all k d)) (λ other. other.amount) all))
 
 -- nothing comes before the first unit
-before-first : (unit : Holding) (units : List Holding) → All (λ other. (comes_before unit other ≡ true) × (comes_before other unit ≡ false)) units → before (unit ∷ units) unit ≡ 0
+before-first : (unit : HeldAmount) (units : List HeldAmount) → All (λ other. (comes_before unit other ≡ true) × (comes_before other unit ≡ false)) units → before (unit ∷ units) unit ≡ 0
 before-first unit units first =
     let itself : comes_before unit unit ≡ false = grind (arith, nat_tests) in
     let none : sum_by (part (λ other. comes_before other unit) (λ other. other.amount)) units ≡ sum_by (λ other. 0) units =
@@ -41,7 +41,7 @@ before-first unit units first =
     ∙ ap (λ n. 0 + n) (none ∙ sum_by-nothing units)
 
 -- the first unit comes before each other
-before-later : (unit : Holding) (units : List Holding) (other : Holding) → comes_before unit other ≡ true → before (unit ∷ units) other ≡ unit.amount + before units other
+before-later : (unit : HeldAmount) (units : List HeldAmount) (other : HeldAmount) → comes_before unit other ≡ true → before (unit ∷ units) other ≡ unit.amount + before units other
 before-later unit units other h =
     sum_by-cons (part (λ o. comes_before o other) (λ o. o.amount)) unit units ∙ ap (λ b. cond b unit.amount 0 + before units other) h
 
@@ -55,7 +55,7 @@ some_missing : (n : ℕ) → nat_lt 0 (suc n) ≡ true
 some_missing n = grind (arith, nat_tests)
 
 -- over a list in order, a unit is taken where the front before it doesn't reach the level
-pub cost_until-in_order : (units : List Holding) (level : ℕ) → IsInOrder units → cost_until level units ≡ sum_by (cost_within (before units) level) units
+pub cost_until-in_order : (units : List HeldAmount) (level : ℕ) → IsInOrder units → cost_until level units ≡ sum_by (cost_within (before units) level) units
 cost_until-in_order units zero h =
     sym (sum_by-same (cost_within (before units) 0) (λ unit. 0) units (λ k d l. ap (λ b. cond b (get_or units k d).cost 0) (nothing_below (before units (get_or units k d)))) ∙ sum_by-nothing units)
 cost_until-in_order [] (suc below) h = refl
@@ -71,7 +71,7 @@ cost_until-in_order (unit ∷ units) (suc below) h =
     ∙ sym (sum_by-cons (cost_within (before (unit ∷ units)) (suc below)) unit units)
 
 -- the units that are taken are the same whatever the order of the list
-pub cost_taken-permutation : (all some : List Holding) (level : ℕ) → IsPermutation all some → cost_taken some level ≡ cost_taken all level
+pub cost_taken-permutation : (all some : List HeldAmount) (level : ℕ) → IsPermutation all some → cost_taken some level ≡ cost_taken all level
 cost_taken-permutation all some level same =
     cost_taken-parts some level
     ∙ sum_by-same (cost_within (before some) level) (cost_within (before all) level) some
@@ -81,6 +81,6 @@ cost_taken-permutation all some level same =
     ∙ sym (cost_taken-parts all level)
 
 -- the base's costs are those of the shortest front of the units in order that reaches the level
-pub cost_taken-in_order : (all ordered : List Holding) (level : ℕ) → IsPermutation all ordered → IsInOrder ordered → cost_until level ordered ≡ cost_taken all level
+pub cost_taken-in_order : (all ordered : List HeldAmount) (level : ℕ) → IsPermutation all ordered → IsInOrder ordered → cost_until level ordered ≡ cost_taken all level
 cost_taken-in_order all ordered level same h =
     cost_until-in_order ordered level h ∙ sym (cost_taken-parts ordered level) ∙ cost_taken-permutation all ordered level same

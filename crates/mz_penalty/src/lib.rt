@@ -3,10 +3,12 @@
 #![tactic(auto)]
 
 mod base;
-mod holders;
+mod bases;
+mod holder;
 #[cfg(test)]
 mod tests;
 mod weight;
 
 pub use base::base_penalty;
+pub use bases::Bases;
 pub use weight::weight_of;

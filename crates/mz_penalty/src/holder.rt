@@ -16,12 +16,12 @@ impl Holder {
     ghost use Rattle.std.specs.Prelude.{◌≡◌};
     ghost use Rattle.std.specs.Ordering.{is_lt};
     ghost use Rattle.mz_penalty.specs.Order.{comes_before};
-    ghost use Rattle.mz_penalty.specs.Ordered.{holding};
+    ghost use Rattle.mz_penalty.specs.Ordered.{held};
 
     /// The order in which units are taken: by raw cost per amount, and among equals by place. The
     /// cross products are exact.
     pub(crate) fn order(&self, other: &Holder) -> Ordering
-        ensures { is_lt result ≡ comes_before (holding self.now) (holding other.now) }
+        ensures { is_lt result ≡ comes_before (held self.now) (held other.now) }
     {
         let own = u128::from(self.cost) * u128::from(other.amount);
         let others = u128::from(other.cost) * u128::from(self.amount);
