@@ -1,5 +1,7 @@
 -- Bounds of the temperatures, and how they rise with the factor.
-use Rattle.std.proofs.Common.{◌≡◌, ℕ, zero, suc, ◌+◌, ◌*◌, ◌/◌, ◌^◌, ◌<◌, ◌≤◌, max, refl, arith, add-one, ap, ◌∙◌, List, get_or}
+use Rattle.std.proofs.Common.{◌≡◌, ℕ, zero, suc, ◌+◌, ◌*◌, ◌/◌, ◌^◌, ◌<◌, ◌≤◌, ◌-◌, max, true, refl, arith, add-one, ap, sym, ◌∙◌, List, get_or}
+use Rattle.std.specs.Prelude.{nat_le}
+use Rattle.std.proofs.lemmas.Bool.{le-leb}
 use Rattle.std.proofs.Math.Nat.{div-mul-le_self, le-div_iff_mul-le, div-lt_iff_lt-mul, mul-le-mul, mul-le-mul_left, mul-le-mul_right, div-le_of_le-mul}
 use Rattle.mz_cool.specs.Table.{IsTable}
 use Rattle.mz_cool.proofs.TableLemmas.{IsTable-read}
@@ -40,6 +42,34 @@ temperature_of_level-le first factor (suc n) h small =
     let part : t * factor ≤ t * 10 ^ 9 = mul-le-mul_left t small in
     let whole : t * factor / 10 ^ 9 ≤ t = div-le_of_le-mul (10 ^ 9) (omega arith) in
     omega arith
+
+-- they never rise from level to level
+pub temperature_of_level-falls : (first factor n more : ℕ) → 1 ≤ first → factor ≤ 10 ^ 9
+    → temperature_of_level first factor (n + more) ≤ temperature_of_level first factor n
+unfolding temperature_of_level
+temperature_of_level-falls first factor n zero h small =
+    let here : n + 0 ≡ n = omega arith in
+    let same = ap (temperature_of_level first factor) here in
+    omega arith
+temperature_of_level-falls first factor n (suc more) h small =
+    let before = temperature_of_level-falls first factor n more h small in
+    let t = temperature_of_level first factor (n + more) in
+    let least : 1 ≤ t = temperature_of_level-pos first factor (n + more) h in
+    let part : t * factor ≤ t * 10 ^ 9 = mul-le-mul_left t small in
+    let whole : t * factor / 10 ^ 9 ≤ t = div-le_of_le-mul (10 ^ 9) (omega arith) in
+    let next : n + suc more ≡ suc (n + more) = omega arith in
+    let same : temperature_of_level first factor (n + suc more) ≡ max 1 (t * factor / 10 ^ 9) = ap (temperature_of_level first factor) next in
+    omega arith
+
+-- where one level is low enough, each later one is too
+pub low_enough : (first factor n levels temperature last : ℕ) → 1 ≤ first → factor ≤ 10 ^ 9
+    → temperature ≡ temperature_of_level first factor n → n ≤ levels → temperature ≤ last
+    → true ≡ nat_le (temperature_of_level first factor levels) last
+low_enough first factor n levels temperature last h small is within low =
+    let falls = temperature_of_level-falls first factor n (levels - n) h small in
+    let whole : n + (levels - n) ≡ levels = omega arith in
+    let same = ap (temperature_of_level first factor) whole in
+    sym (le-leb (temperature_of_level first factor levels) last (omega arith))
 
 -- they rise with the factor
 pub temperature_of_level-mono : (first factor greater n : ℕ) → factor ≤ greater

@@ -114,7 +114,8 @@ fn adaptive_factor(first: u128, last: u128, levels: u32) -> u32
     passing
 }
 
-/// Whether so many steps from the first temperature end at most at the last.
+/// Whether so many steps from the first temperature end at most at the last. No step raises a
+/// temperature, so the walk stops once it is low enough.
 fn ends_within(first: u128, last: u128, factor: u32, levels: u32) -> bool
     requires above { 1 ≤ first }
     requires below { first ≤ 10 ^ 29 }
@@ -123,6 +124,9 @@ fn ends_within(first: u128, last: u128, factor: u32, levels: u32) -> bool
 {
     let mut temperature = first;
     for _level in 0..levels {
+        if temperature <= last {
+            return true;
+        }
         temperature = cooled(temperature, factor);
     }
     temperature <= last
