@@ -3,6 +3,7 @@
 #![tactic(auto)]
 
 mod bounds;
+mod columns;
 mod outer;
 mod pair;
 mod rate;
@@ -13,6 +14,7 @@ mod wanted;
 mod zone_bounds;
 
 pub use bounds::{Bounds, read_bounds};
+pub use columns::{bound_columns, zone_bound_columns};
 pub use rate::rates;
 pub use wanted::{wants_bounds, wants_zone_bounds};
 pub use zone_bounds::read_zone_bounds;

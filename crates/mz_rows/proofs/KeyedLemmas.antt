@@ -1,15 +1,14 @@
 -- Values by place, while rows give them one by one.
-use Rattle.std.proofs.Common.{◌≡◌, ℕ, ◌<◌, ◌==◌, Bool, true, false, cond, List, [], ◌∷◌, ◌++◌, length, get_or, set, map, Option, Some, None, refl, ap, sym, ◌∙◌, arith, inl, inr}
+use Rattle.std.proofs.Common.{◌≡◌, ℕ, ◌<◌, ◌==◌, Bool, true, false, cond, List, [], ◌∷◌, ◌++◌, length, get_or, set, map, Option, Some, None, refl, ap, sym, ◌∙◌, inl, inr}
 use Rattle.std.specs.Prelude.{◌||◌, is_some, option_map, unwrap_or}
 use Rattle.std.specs.List.{find, list_any}
-use Rattle.std.proofs.Math.ListN.{length-set, replicate}
+use Rattle.std.proofs.Math.ListN.{replicate}
 use Rattle.std.proofs.lemmas.Bool.{cases_eq, eq-eqb, ne_eqb}
-use Rattle.std.proofs.lemmas.List.{get_or-replicate, get_or-set_other, get_or-set_same, length-replicate, map_push}
+use Rattle.std.proofs.lemmas.List.{map_push}
 use Rattle.std.proofs.lemmas.List.Folds.{list_any-append}
-use Rattle.std.proofs.lemmas.List.FromFn.{length-map-range_with_len, get_or-map-range_with_len, fill_by_all}
 use Rattle.mz_tables.specs.Ids.{has_id}
 use Rattle.mz_num.specs.Places.{list_below}
-use Rattle.mz_num.proofs.PlaceLaws.{get_or-list_below, length-list_below, list_below-from, list_below-set, replicate-list_below}
+use Rattle.mz_num.proofs.PlaceLaws.{get_or-list_below, list_below-from, list_below-set, replicate-list_below}
 use Rattle.mz_rows.specs.Keyed.{value_at, values_below}
 
 -- ---- the row that has a key

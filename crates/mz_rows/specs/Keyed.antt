@@ -1,5 +1,5 @@
 -- Values by place, where a row gives the value of one place, which is its key.
-use Rattle.std.specs.Prelude.{ℕ, ◌==◌, List, map, Option, option_map, unwrap_or}
+use Rattle.std.specs.Prelude.{ℕ, ◌==◌, List, Option, option_map, unwrap_or}
 use Rattle.std.specs.List.{find}
 use Rattle.mz_num.specs.Places.{list_below}
 

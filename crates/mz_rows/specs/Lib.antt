@@ -4,4 +4,3 @@ pub mod Columns
 pub mod Keyed
 pub mod Pairs
 pub mod Rows
-pub mod Wanted

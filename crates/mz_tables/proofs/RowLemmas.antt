@@ -12,7 +12,7 @@ use Rattle.std.specs.Prelude.{position}
 use Rattle.std.specs.List.{position_from}
 use Rattle.std.proofs.lemmas.Iterator.Adapters.{position_from-zero}
 use Rattle.mz_tables.specs.Cells.{kept_of, rows_in}
-use Rattle.mz_tables.specs.Table.{Row, Answers, is_uneven, made_of, read_table, row_of, rows_of, table_config, unless_missing, unless_uneven}
+use Rattle.mz_tables.specs.Table.{Row, Answers, is_uneven, made_of, read_table, row_of, table_rows, table_config, unless_missing, unless_uneven}
 use Rattle.mz_tables.specs.declared.fault.TableFault.{TableFault}
 use Rattle.mz_tables.specs.declared.fault.TableFault.TheVariants.{NoHeader, ColumnMissing, Uneven, NoMemory}
 use Rattle.mz_tables.proofs.CellLemmas.{length-rows_in, row_in-kept, rows_in-more}
@@ -21,8 +21,8 @@ use Rattle.mz_tables.proofs.CellLemmas.{length-rows_in, row_in-kept, rows_in-mor
 abbrev pub rows_after : ℕ → List (Option ℕ) → List Row → List (List (List ℕ)) → Result (List Row) TableFault
 rows_after width columns got left = unless_uneven (position_from (is_uneven width) (length got) left) (got ++ map (row_of columns) left)
 
-pub rows_after-start : (width : ℕ) (columns : List (Option ℕ)) (left : List (List (List ℕ))) → rows_of width columns left ≡ rows_after width columns [] left
-unfolding rows_of
+pub rows_after-start : (width : ℕ) (columns : List (Option ℕ)) (left : List (List (List ℕ))) → table_rows width columns left ≡ rows_after width columns [] left
+unfolding table_rows
 rows_after-start width columns left = ap (λ first. unless_uneven first (map (row_of columns) left)) (position_from-zero (is_uneven width) left)
 
 pub rows_after-end : (width : ℕ) (columns : List (Option ℕ)) (got : List Row) (left : List (List (List ℕ))) → left ≡ [] → rows_after width columns got left ≡ Ok got
@@ -35,7 +35,7 @@ pub rows_after-even : (width : ℕ) (columns : List (Option ℕ)) (got : List Ro
 rows_after-even width columns got fields left rest e even = rw (e, even) (simp (length-append, append_assoc) refl)
 
 -- the same, over the cells that are kept
-pub rows-start : (width : ℕ) (columns : List (Option ℕ)) (cells : List (List ℕ)) (left : List (List (List ℕ))) → rows_of width columns left ≡ rows_after width columns (rows_in columns 0 cells) left
+pub rows-start : (width : ℕ) (columns : List (Option ℕ)) (cells : List (List ℕ)) (left : List (List (List ℕ))) → table_rows width columns left ≡ rows_after width columns (rows_in columns 0 cells) left
 unfolding rows_in
 rows-start width columns cells left = rows_after-start width columns left
 
@@ -70,7 +70,7 @@ read-none bytes wants rest e none = ap (λ r. made_of r wants) (sym e ∙ none)
 read_missing_at : (bytes : List ℕ) (wants : List Want) (header : List (List ℕ)) (all rest : List (List (List ℕ))) (place : ℕ) → all ≡ records (table_config bytes) (strip_bom bytes) → all ≡ header ∷ rest → position (is_missing header) wants ≡ Some place → read_table bytes wants ≡ Err (ColumnMissing place)
 unfolding read_table made_of
 read_missing_at bytes wants header all rest place e is missing =
-    ap (λ r. made_of r wants) (sym e ∙ is) ∙ ap (λ first. unless_missing first (rows_of (length header) (columns_of header wants) rest)) missing
+    ap (λ r. made_of r wants) (sym e ∙ is) ∙ ap (λ first. unless_missing first (table_rows (length header) (columns_of header wants) rest)) missing
 
 read-missing : (bytes : List ℕ) (wants : List Want) (header : List (List ℕ)) (all rest : List (List (List ℕ))) (fault : TableFault) → all ≡ records (table_config bytes) (strip_bom bytes) → all ≡ header ∷ rest → IsMissingFault fault (position (is_missing header) wants) → Answers (Err fault) (read_table bytes wants)
 read-missing bytes wants header all rest NoHeader e is h = absurd h
@@ -83,11 +83,11 @@ read-refused bytes wants seen header all rest fault given result e is same h r g
     subst (λ answer. Answers answer (read_table bytes wants)) (sym (r ∙ ap Err g))
     (read-missing bytes wants header all rest fault e is (subst (λ list. IsMissingFault fault (position (is_missing header) list)) same h))
 
-pub read-rows : (bytes : List ℕ) (wants : List Want) (header : List (List ℕ)) (all rest : List (List (List ℕ))) (columns : List (Option ℕ)) (width : ℕ) (result : Result (List Row) TableFault) → all ≡ records (table_config bytes) (strip_bom bytes) → all ≡ header ∷ rest → position (is_missing header) wants ≡ None → columns ≡ columns_of header wants → width ≡ length header → Answers result (rows_of width columns rest) → Answers result (read_table bytes wants)
+pub read-rows : (bytes : List ℕ) (wants : List Want) (header : List (List ℕ)) (all rest : List (List (List ℕ))) (columns : List (Option ℕ)) (width : ℕ) (result : Result (List Row) TableFault) → all ≡ records (table_config bytes) (strip_bom bytes) → all ≡ header ∷ rest → position (is_missing header) wants ≡ None → columns ≡ columns_of header wants → width ≡ length header → Answers result (table_rows width columns rest) → Answers result (read_table bytes wants)
 unfolding read_table made_of
 read-rows bytes wants header all rest columns width result e is there same wide h =
-    let whole : read_table bytes wants ≡ rows_of width columns rest =
+    let whole : read_table bytes wants ≡ table_rows width columns rest =
     ap (λ r. made_of r wants) (sym e ∙ is)
-    ∙ (ap (λ first. unless_missing first (rows_of (length header) (columns_of header wants) rest)) there
-    ∙ (ap (λ cs. rows_of (length header) cs rest) (sym same) ∙ ap (λ n. rows_of n columns rest) (sym wide))) in
+    ∙ (ap (λ first. unless_missing first (table_rows (length header) (columns_of header wants) rest)) there
+    ∙ (ap (λ cs. table_rows (length header) cs rest) (sym same) ∙ ap (λ n. table_rows n columns rest) (sym wide))) in
     subst (λ made. Answers result made) (sym whole) h

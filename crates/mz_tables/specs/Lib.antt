@@ -5,3 +5,4 @@ pub mod Ids
 pub mod Missing
 pub mod Reading
 pub mod Table
+pub mod Wants

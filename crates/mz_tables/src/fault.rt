@@ -1,8 +1,10 @@
 //! Why a table, or a row of it, is refused.
 ghost use Rattle.std.specs.Prelude.{◌≡◌};
+ghost use Rattle.mz_tables.specs.declared.fault.RowFault.TheVariants as the_row_fault;
 ghost use Rattle.mz_tables.specs.declared.fault.TableFault.TheVariants as the_fault;
 
 use mz_num::{NoMemory, NumFault};
+use std::alloc::{AllocError, AllocFailed};
 
 /// The first fault of a table's form. The order of faults is this project's profile.
 #[derive(Clone, Copy, Debug, PartialEq, Eq)]
@@ -45,4 +47,28 @@ pub enum RowFault {
     LockConflict(u32, u32),
     /// There was not enough memory.
     NoMemory,
+}
+
+impl From<NoMemory> for RowFault {
+    ghost from_gives = { λ _ fault. fault ≡ the_row_fault.NoMemory };
+
+    fn from(_error: NoMemory) -> RowFault {
+        RowFault::NoMemory
+    }
+}
+
+impl From<AllocError> for RowFault {
+    ghost from_gives = { λ _ fault. fault ≡ the_row_fault.NoMemory };
+
+    fn from(_error: AllocError) -> RowFault {
+        RowFault::NoMemory
+    }
+}
+
+impl<T: Drop> From<AllocFailed<T>> for RowFault {
+    ghost from_gives = { λ _ fault. fault ≡ the_row_fault.NoMemory };
+
+    fn from(_error: AllocFailed<T>) -> RowFault {
+        RowFault::NoMemory
+    }
 }

@@ -3,6 +3,8 @@ ghost use Rattle.std.specs.Prelude.{◌≡◌, ◌<◌, ◌≤◌, not, nat_eq, 
 ghost use Rattle.std.specs.List.{IsDistinct};
 ghost use Rattle.mz_tables.specs.Ids.{has_id, with_id, place_of_id};
 
+use crate::id_hash::IdHash;
+use crate::table::Table;
 use indexmap::IndexSet;
 use mz_num::NoMemory;
 use std::alloc::Global;
@@ -14,7 +16,7 @@ mod tests;
 /// A list of distinct ids, each found by one look-up.
 #[derive(Drop)]
 pub struct Ids {
-    ids: IndexSet<u32>,
+    ids: IndexSet<u32, IdHash>,
 }
 
 impl Model for Ids {
@@ -33,7 +35,19 @@ impl Ids {
         ensures { IfOk result (λ ids. ids ≡ []) }
     {
         Ok(Ids {
-            ids: IndexSet::new(alloc),
+            ids: IndexSet::with_hasher(alloc, IdHash::new(0)),
+        })
+    }
+
+    /// No id yet, with room for those of a table's rows, of which so many are taken at most. The
+    /// key of their hash comes of the table's own fields, so that ids can't be chosen to share a hash.
+    pub fn of_table(alloc: Global, table: &Table, most: u32) -> Result<Ids, NoMemory>
+        ensures { IfOk result (λ ids. ids ≡ []) }
+    {
+        let room = table.rows().min(most) as usize;
+        let hash = IdHash::new(table.key());
+        Ok(Ids {
+            ids: IndexSet::with_capacity_and_hasher(alloc, room, hash)?,
         })
     }
 

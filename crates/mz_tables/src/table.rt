@@ -4,7 +4,7 @@ ghost use Rattle.std.specs.List.{All};
 ghost use Rattle.csv.specs.Records.{fields_of, partial_of};
 ghost use Rattle.mz_tables.specs.Cells.{kept_of};
 ghost use Rattle.mz_tables.specs.Reading.{IsReading, rest_of};
-ghost use Rattle.mz_tables.specs.Table.{Answers, read_table, rows_of, field_in};
+ghost use Rattle.mz_tables.specs.Table.{Answers, read_table, table_rows, field_in, line_of};
 
 use crate::fault::TableFault;
 use crate::header::find_columns;
@@ -13,6 +13,7 @@ use crate::wants::Wants;
 use csv::{ByteRecord, Reader};
 use mz_num::{NoMemory, trim};
 use std::alloc::Global;
+use std::hash::{DefaultHasher, Hasher};
 use std::marker::Model;
 
 #[cfg(test)]
@@ -57,12 +58,28 @@ impl Table {
         read_rows(alloc, &mut reader, header.len(), columns)
     }
 
-    /// How many rows there are. Row r stands on line r + 2.
+    /// How many rows there are.
     pub fn rows(&self) -> u32
         ensures rows { result ≡ length self.now }
         ensures few { length self.now ≤ 268435456 }
     {
         self.count
+    }
+
+    /// The line of a row. Lines count records, the header being 1.
+    pub fn line(&self, row: u32) -> u32
+        requires { row < length self.now }
+        ensures { result ≡ line_of row }
+    {
+        prove!(row < self.rows());
+        row + 2
+    }
+
+    /// A number that the wanted fields give, all of them.
+    pub(crate) fn key(&self) -> u64 {
+        let mut hasher = DefaultHasher::new();
+        hasher.write(self.cells.as_slice());
+        hasher.finish()
     }
 
     /// The field of a row by the place of its want, without spaces and tabs at its ends; none
@@ -91,7 +108,7 @@ fn read_rows(
     requires reading { IsReading reader.old }
     requires few { length (rest_of reader.old) ≤ 268435456 }
     requires narrow { length columns.items ≤ 65535 }
-    ensures answer { Answers result (rows_of width columns.items (rest_of reader.old)) }
+    ensures answer { Answers result (table_rows width columns.items (rest_of reader.old)) }
     ensures wide { IfOk result (λ table. All (λ row. length row ≡ length columns.items) table) }
 {
     let mut cells = ByteRecord::new(alloc);

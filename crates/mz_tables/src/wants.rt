@@ -1,6 +1,7 @@
 //! The columns that a table is read for.
-ghost use Rattle.std.specs.Prelude.{◌≡◌, ◌<◌, ◌≤◌, ◌++◌, [], ◌∷◌, length, OnOk, OnErr, IfOk};
+ghost use Rattle.std.specs.Prelude.{◌≡◌, ◌<◌, ◌≤◌, ◌++◌, [], ◌∷◌, length, map, OnOk, OnErr, IfOk};
 
+use crate::column::Column;
 use mz_num::{Items, NoMemory};
 use std::alloc::Global;
 use std::marker::Model;
@@ -34,7 +35,7 @@ impl Model for Wants {
 }
 
 impl Wants {
-    ghost use Rattle.mz_tables.specs.declared.wants.Want.{Want};
+    ghost use Rattle.mz_tables.specs.Wants.{want, want_of};
 
     /// No column yet.
     pub fn new(alloc: Global) -> Result<Wants, NoMemory>
@@ -43,6 +44,23 @@ impl Wants {
         Ok(Wants {
             wants: Vec::new(alloc),
         })
+    }
+
+    /// The columns of a file, in their order.
+    pub fn of(alloc: Global, columns: &[Column]) -> Result<Wants, NoMemory>
+        requires { length columns.now ≤ 65535 }
+        ensures { IfOk result (λ wants. wants ≡ map want_of columns.now) }
+    {
+        let mut wants = Wants::new(alloc)?;
+        for column in columns {
+            wants.add(
+                alloc,
+                column.name.as_bytes(),
+                column.other.as_bytes(),
+                column.needed,
+            )?;
+        }
+        Ok(wants)
     }
 
     /// Adds a column by its name and its other name, which is none where it is empty. After want
@@ -55,7 +73,7 @@ impl Wants {
         needed: bool,
     ) -> Result<(), NoMemory>
         requires { length self.old < 65535 }
-        ensures ok { OnOk result (self.new ≡ self.old ++ (record { name = name.now; other = other.now; needed = needed }) ∷ []) }
+        ensures ok { OnOk result (self.new ≡ self.old ++ want name.now other.now needed ∷ []) }
         ensures err { OnErr result (self.new ≡ self.old) }
     {
         let want = Want {

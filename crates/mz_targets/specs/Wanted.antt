@@ -1,7 +1,7 @@
 -- The columns of the files of features, amounts, contributions and zone targets.
 use Rattle.std.specs.Prelude.{true, false, List, [], ◌∷◌, codes}
 use Rattle.mz_tables.specs.declared.wants.Want.{Want}
-use Rattle.mz_rows.specs.Wanted.{want}
+use Rattle.mz_tables.specs.Wants.{want}
 
 abbrev pub feature_columns : List Want
 feature_columns =

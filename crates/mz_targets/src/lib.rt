@@ -3,6 +3,7 @@
 #![tactic(auto)]
 
 mod amounts;
+mod columns;
 mod contribs;
 mod features;
 mod level;
@@ -14,6 +15,7 @@ mod wanted;
 mod zone_targets;
 
 pub use amounts::read_amounts;
+pub use columns::{amount_columns, contrib_columns, feature_columns, zone_target_columns};
 pub use contribs::read_contribs;
 pub use features::{Feature, FeatureList, read_features};
 pub use level::level_of;

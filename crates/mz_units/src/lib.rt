@@ -2,6 +2,7 @@
 //! that come of them. Each reader answers exactly the rows of its table, or their first fault.
 #![tactic(auto)]
 
+mod columns;
 mod locks;
 mod named;
 mod terms;
@@ -13,6 +14,9 @@ mod wanted;
 mod zone_costs;
 mod zone_sets;
 
+pub use columns::{
+    cost_columns, unit_id_columns, unit_zone_columns, zone_columns, zone_cost_columns,
+};
 pub use locks::read_locks;
 pub use named::{CostList, ZoneList, read_costs, read_zones};
 pub use terms::cost_terms;
