@@ -19,7 +19,8 @@ use Rattle.mz_model.proofs.ScoreLaws.{boundary_of_plan-is}
 use Rattle.mz_delta.specs.declared.judged.Judged.{Judged}
 use Rattle.mz_delta.specs.declared.reading.Reading.{Reading}
 use Rattle.mz_delta.specs.Judged.{IsDifference}
-use Rattle.mz_delta.specs.Move.{boundary_around, moved, moved_total, moved_totals, neighbour_term, penalty_around}
+use Rattle.mz_delta.specs.Move.{boundary_around, moved_total, moved_totals, neighbour_term, penalty_around}
+use Rattle.mz_model.specs.Move.{moved_plan}
 use Rattle.mz_delta.specs.Reading.{Agrees, IsWellFormed, neighbour_at}
 use Rattle.mz_delta.proofs.DifferenceLaws.{crosswise, sum_of_differences}
 use Rattle.mz_delta.proofs.MoveLaws.{cost-moved, held-moved, moved-other, moved-own, outer-moved, pairs-moved}
@@ -49,19 +50,19 @@ unfolding boundary_around
 boundary_around-is parts reading zone = refl
 
 boundary-moved : (parts : Parts) (reading : Reading) (zones : List ℕ) (zone : ℕ) → IsValid parts → IsWellFormed parts reading → IsTrue (is_allowed parts reading.unit zone) → IsLegalPlan parts zones → Agrees parts zones reading
-    → boundary_of_plan parts (moved zones reading.unit zone) + boundary_around parts reading reading.zone ≡ boundary_of_plan parts zones + boundary_around parts reading zone
+    → boundary_of_plan parts (moved_plan zones reading.unit zone) + boundary_around parts reading reading.zone ≡ boundary_of_plan parts zones + boundary_around parts reading zone
 boundary-moved parts reading zones zone valid well allowed legal agrees =
     let inside : reading.unit < length zones = subst (λ n. reading.unit < n) (sym legal.whole) well.unit in
     let before : sum_by (near_by (edge_term_of parts) (slice_index zones) reading.unit) (neighbours_of parts reading.unit) ≡ sum_below (length (neighbours_of parts reading.unit)) (neighbour_term parts reading reading.zone) =
     near_terms parts reading reading.zone (slice_index zones) (sym agrees.unit) (λ i h. read_neighbour parts reading zones i agrees h) in
-    let after : sum_by (near_by (edge_term_of parts) (slice_index (moved zones reading.unit zone)) reading.unit) (neighbours_of parts reading.unit) ≡ sum_below (length (neighbours_of parts reading.unit)) (neighbour_term parts reading zone) =
-    near_terms parts reading zone (slice_index (moved zones reading.unit zone)) (moved-own zones reading.unit zone inside)
+    let after : sum_by (near_by (edge_term_of parts) (slice_index (moved_plan zones reading.unit zone)) reading.unit) (neighbours_of parts reading.unit) ≡ sum_below (length (neighbours_of parts reading.unit)) (neighbour_term parts reading zone) =
+    near_terms parts reading zone (slice_index (moved_plan zones reading.unit zone)) (moved-own zones reading.unit zone inside)
     (λ i h. moved-other zones reading.unit zone (neighbour_at parts reading.unit i) (All-get_or (λ (neighbour : ℕ × ℕ). neighbour.0 ≡ reading.unit → ⊥) (neighbours_of parts reading.unit) i (0, 0) h (neighbours_of-others parts reading.unit valid)) ∙ read_neighbour parts reading zones i agrees h) in
     let own : edge_term_of parts (outer_at parts reading.unit) (slice_index zones reading.unit) parts.available ≡ edge_term_of parts (outer_at parts reading.unit) reading.zone parts.available = ap (λ k. edge_term_of parts (outer_at parts reading.unit) k parts.available) (sym agrees.unit) in
     omega (
       arith,
       boundary_of_plan-is parts zones,
-      boundary_of_plan-is parts (moved zones reading.unit zone),
+      boundary_of_plan-is parts (moved_plan zones reading.unit zone),
       boundary_around-is parts reading reading.zone,
       boundary_around-is parts reading zone,
       pairs-moved parts zones reading.unit zone valid legal well.unit allowed,
@@ -71,7 +72,7 @@ boundary-moved parts reading zones zone valid well allowed legal agrees =
 -- ---- totals and penalty
 
 moved_total-held : (parts : Parts) (reading : Reading) (zones : List ℕ) (zone i : ℕ) → IsWellFormed parts reading → IsLegalPlan parts zones → Agrees parts zones reading → i < length (touched_rows parts reading.unit)
-    → held_of parts (moved zones reading.unit zone) (slice_index (touched_rows parts reading.unit) i) ≡ moved_total parts reading zone i
+    → held_of parts (moved_plan zones reading.unit zone) (slice_index (touched_rows parts reading.unit) i) ≡ moved_total parts reading zone i
 unfolding moved_total
 moved_total-held parts reading zones zone i well legal agrees h =
     let read : slice_index reading.totals.items i ≡ held_of parts zones (slice_index (touched_rows parts reading.unit) i) = ap (λ (ts : List ℕ). get_or ts i 0) agrees.totals ∙ get_or-map (held_of parts zones) (touched_rows parts reading.unit) i 0 0 h in
@@ -79,12 +80,12 @@ moved_total-held parts reading zones zone i well legal agrees h =
     omega (arith, held-moved parts zones reading.unit zone (slice_index (touched_rows parts reading.unit) i) legal well.unit)
 
 pub moved_totals-held : (parts : Parts) (reading : Reading) (zones : List ℕ) (zone : ℕ) → IsWellFormed parts reading → IsLegalPlan parts zones → Agrees parts zones reading
-    → moved_totals parts reading zone ≡ map (held_of parts (moved zones reading.unit zone)) (touched_rows parts reading.unit)
+    → moved_totals parts reading zone ≡ map (held_of parts (moved_plan zones reading.unit zone)) (touched_rows parts reading.unit)
 unfolding moved_totals
 moved_totals-held parts reading zones zone well legal agrees =
-    sym (list_below-from (length (touched_rows parts reading.unit)) (moved_total parts reading zone) (map (held_of parts (moved zones reading.unit zone)) (touched_rows parts reading.unit)) 0
-    (length-map (touched_rows parts reading.unit) (held_of parts (moved zones reading.unit zone)))
-    (λ i h. get_or-map (held_of parts (moved zones reading.unit zone)) (touched_rows parts reading.unit) i 0 0 h ∙ moved_total-held parts reading zones zone i well legal agrees h))
+    sym (list_below-from (length (touched_rows parts reading.unit)) (moved_total parts reading zone) (map (held_of parts (moved_plan zones reading.unit zone)) (touched_rows parts reading.unit)) 0
+    (length-map (touched_rows parts reading.unit) (held_of parts (moved_plan zones reading.unit zone)))
+    (λ i h. get_or-map (held_of parts (moved_plan zones reading.unit zone)) (touched_rows parts reading.unit) i 0 0 h ∙ moved_total-held parts reading zones zone i well legal agrees h))
 
 -- the penalties of the touched rows, of which a plan holds so much
 penalty_around-held : (parts : Parts) (unit : ℕ) (zones totals : List ℕ) → totals ≡ map (held_of parts zones) (touched_rows parts unit) → penalty_around parts unit totals ≡ sum_by (near_penalty parts zones) (touched_rows parts unit)
@@ -105,10 +106,10 @@ pub record IsCounted (parts : Parts) (reading : Reading) (zone : ℕ) (judged : 
   pub change : judged.change ≡ judged.cost +ℤ judged.boundary +ℤ judged.penalty
   pub totals : judged.totals.items ≡ moved_totals parts reading zone
 
-pub counted-difference : (parts : Parts) (reading : Reading) (zones : List ℕ) (zone : ℕ) (judged : Judged) → IsValid parts → IsWellFormed parts reading → IsTrue (is_allowed parts reading.unit zone) → IsCounted parts reading zone judged → IsLegalPlan parts zones → Agrees parts zones reading → IsDifference parts zones (moved zones reading.unit zone) judged
+pub counted-difference : (parts : Parts) (reading : Reading) (zones : List ℕ) (zone : ℕ) (judged : Judged) → IsValid parts → IsWellFormed parts reading → IsTrue (is_allowed parts reading.unit zone) → IsCounted parts reading zone judged → IsLegalPlan parts zones → Agrees parts zones reading → IsDifference parts zones (moved_plan zones reading.unit zone) judged
 counted-difference parts reading zones zone judged valid well allowed counted legal agrees =
-    let after : List ℕ = moved zones reading.unit zone in
-    let totals : judged.totals.items ≡ map (held_of parts (moved zones reading.unit zone)) (touched_rows parts reading.unit) = counted.totals ∙ moved_totals-held parts reading zones zone well legal agrees in
+    let after : List ℕ = moved_plan zones reading.unit zone in
+    let totals : judged.totals.items ≡ map (held_of parts (moved_plan zones reading.unit zone)) (touched_rows parts reading.unit) = counted.totals ∙ moved_totals-held parts reading zones zone well legal agrees in
     let old_cost : cost_at parts reading.unit reading.zone ≡ cost_at parts reading.unit (slice_index zones reading.unit) = ap (cost_at parts reading.unit) agrees.unit in
     let cost : judged.cost ≡ pos (cost_of_plan parts after) -ℤ pos (cost_of_plan parts zones) =
     counted.cost ∙ crosswise (cost_of_plan parts after) (cost_of_plan parts zones) (cost_at parts reading.unit zone) (cost_at parts reading.unit reading.zone) (omega (arith, cost-moved parts zones reading.unit zone legal well.unit)) in
@@ -116,12 +117,12 @@ counted-difference parts reading zones zone judged valid well allowed counted le
     counted.boundary ∙ crosswise (boundary_of_plan parts after) (boundary_of_plan parts zones) (boundary_around parts reading zone) (boundary_around parts reading reading.zone) (boundary-moved parts reading zones zone valid well allowed legal agrees) in
     let penalty : judged.penalty ≡ pos (penalty_of_plan parts after) -ℤ pos (penalty_of_plan parts zones) =
     counted.penalty ∙ crosswise (penalty_of_plan parts after) (penalty_of_plan parts zones) (penalty_around parts reading.unit judged.totals.items) (penalty_around parts reading.unit reading.totals.items)
-    (omega (arith, penalty-moved parts zones reading.unit zone valid legal well.unit allowed, penalty_around-held parts reading.unit zones reading.totals.items agrees.totals, penalty_around-held parts reading.unit (moved zones reading.unit zone) judged.totals.items totals)) in
+    (omega (arith, penalty-moved parts zones reading.unit zone valid legal well.unit allowed, penalty_around-held parts reading.unit zones reading.totals.items agrees.totals, penalty_around-held parts reading.unit (moved_plan zones reading.unit zone) judged.totals.items totals)) in
     record {
       cost = cost;
       boundary = boundary;
       penalty = penalty;
       change = counted.change;
       total = sum_of_differences (cost_of_plan parts zones) (boundary_of_plan parts zones) (penalty_of_plan parts zones) (cost_of_plan parts after) (boundary_of_plan parts after) (penalty_of_plan parts after) judged.cost judged.boundary judged.penalty judged.change cost boundary penalty counted.change;
-      totals = totals ∙ ap (λ unit. map (held_of parts (moved zones reading.unit zone)) (touched_rows parts unit)) (sym counted.unit);
+      totals = totals ∙ ap (λ unit. map (held_of parts (moved_plan zones reading.unit zone)) (touched_rows parts unit)) (sym counted.unit);
     }

@@ -6,7 +6,7 @@ use Rattle.std.proofs.lemmas.List.{get_or-map, length-map, length-take-le, take_
 use Rattle.std.proofs.lemmas.List.Elements.{All-get_or, All-head, All-map, All-tail, All-weaker}
 use Rattle.mz_model.specs.declared.parts.Parts.{Parts}
 use Rattle.mz_model.specs.Boundary.{neighbours_of}
-use Rattle.mz_model.specs.Parts.{unit_count, row_count}
+use Rattle.mz_model.specs.Parts.{unit_count, target_count}
 use Rattle.mz_num.specs.Places.{list_below}
 use Rattle.mz_model.specs.Plans.{IsLegalPlan}
 use Rattle.mz_model.specs.Targets.{amount_for, held_of, touched_rows, touches_of}
@@ -18,7 +18,7 @@ use Rattle.mz_model.proofs.ScoreLaws.{plan-in_range}
 use Rattle.mz_model.proofs.TargetLaws.{held_of-le}
 use Rattle.mz_model.proofs.TouchLaws.{touched_rows-in_range}
 use Rattle.mz_delta.specs.declared.reading.Reading.{Reading}
-use Rattle.mz_delta.specs.Reading.{Agrees, IsWellFormed, Reads, neighbour_at, totals_of_plan, zones_around}
+use Rattle.mz_delta.specs.Reading.{Agrees, IsReadingOf, IsWellFormed, neighbour_at, totals_of_plan, zones_around}
 
 -- a list that is filled as far as another one has room for one item more
 pub room-left : {X : Type 0} (f : X → ℕ) (xs : List X) (items : List ℕ) (i most room : ℕ) → items ≡ map f (take i xs) → i < length xs → length xs ≤ most → most ≤ room → length items < room
@@ -29,18 +29,18 @@ map-alike : (P : ℕ → Type 0) (f g : ℕ → ℕ) (xs : List ℕ) → ((x : �
 map-alike P f g [] same all = refl
 map-alike P f g (x ∷ xs) same all = ap (λ y. y ∷ map f xs) (same x (All-head P x xs all)) ∙ ap (λ ys. g x ∷ ys) (map-alike P f g xs same (All-tail P x xs all))
 
-pub length-totals_of_plan : (parts : Parts) (zones totals : List ℕ) → totals ≡ totals_of_plan parts zones → length totals ≡ row_count parts
+pub length-totals_of_plan : (parts : Parts) (zones totals : List ℕ) → totals ≡ totals_of_plan parts zones → length totals ≡ target_count parts
 unfolding totals_of_plan
-length-totals_of_plan parts zones totals e = ap length e ∙ length-list_below (row_count parts) (held_of parts zones)
+length-totals_of_plan parts zones totals e = ap length e ∙ length-list_below (target_count parts) (held_of parts zones)
 
-pub totals_of_plan-at : (parts : Parts) (zones totals : List ℕ) (row : ℕ) → totals ≡ totals_of_plan parts zones → row < row_count parts → slice_index totals row ≡ held_of parts zones row
+pub totals_of_plan-at : (parts : Parts) (zones totals : List ℕ) (row : ℕ) → totals ≡ totals_of_plan parts zones → row < target_count parts → slice_index totals row ≡ held_of parts zones row
 unfolding totals_of_plan
-totals_of_plan-at parts zones totals row e h = ap (λ (ts : List ℕ). get_or ts row 0) e ∙ get_or-list_below (row_count parts) row (held_of parts zones) 0 h
+totals_of_plan-at parts zones totals row e h = ap (λ (ts : List ℕ). get_or ts row 0) e ∙ get_or-list_below (target_count parts) row (held_of parts zones) 0 h
 
 pub totals_of_plan-more : (parts : Parts) (zones totals totals' : List ℕ) (row held : ℕ) → totals ≡ list_below row (held_of parts zones) → held ≡ held_of parts zones row → totals' ≡ totals ++ held ∷ [] → totals' ≡ list_below (row + 1) (held_of parts zones)
 totals_of_plan-more parts zones totals totals' row held so_far is pushed = pushed ∙ ap (λ (xs : List ℕ). xs ++ held ∷ []) so_far ∙ ap (λ n. list_below row (held_of parts zones) ++ n ∷ []) is ∙ sym (list_below-more row (held_of parts zones))
 
-pub totals_of_plan-all : (parts : Parts) (zones totals : List ℕ) (row : ℕ) → row ≡ row_count parts → totals ≡ list_below row (held_of parts zones) → totals ≡ totals_of_plan parts zones
+pub totals_of_plan-all : (parts : Parts) (zones totals : List ℕ) (row : ℕ) → row ≡ target_count parts → totals ≡ list_below row (held_of parts zones) → totals ≡ totals_of_plan parts zones
 unfolding totals_of_plan
 totals_of_plan-all parts zones totals row all so_far = so_far ∙ ap (λ n. list_below n (held_of parts zones)) all
 
@@ -67,7 +67,7 @@ pub read-agrees : (parts : Parts) (zones totals : List ℕ) (reading : Reading) 
 read-agrees parts zones totals reading are read = record {
   unit = read.zone;
   neighbours = read.neighbours;
-  totals = read.totals ∙ map-alike (λ row. row < row_count parts) (slice_index totals) (held_of parts zones) (touched_rows parts reading.unit) (λ row h. totals_of_plan-at parts zones totals row are h) (touched_rows-in_range parts reading.unit);
+  totals = read.totals ∙ map-alike (λ row. row < target_count parts) (slice_index totals) (held_of parts zones) (touched_rows parts reading.unit) (λ row h. totals_of_plan-at parts zones totals row are h) (touched_rows-in_range parts reading.unit);
 }
 
 -- a reading with which a legal plan agrees is well formed
@@ -84,10 +84,10 @@ agrees-well_formed parts zones reading valid legal h agrees =
       touched = ap length agrees.totals ∙ length-map (touched_rows parts reading.unit) (held_of parts zones);
       totals = subst (All (λ total. total ≤ 10 ^ 18)) (sym agrees.totals)
           (All-map (λ total. total ≤ 10 ^ 18) (held_of parts zones) (touched_rows parts reading.unit)
-          (All-weaker (λ row. row < row_count parts) (λ row. held_of parts zones row ≤ 10 ^ 18) (λ row g. held_of-le parts zones row valid g (λ unit k. plan-in_range parts zones unit valid legal k)) (touched_rows parts reading.unit) (touched_rows-in_range parts reading.unit)));
+          (All-weaker (λ row. row < target_count parts) (λ row. held_of parts zones row ≤ 10 ^ 18) (λ row g. held_of-le parts zones row valid g (λ unit k. plan-in_range parts zones unit valid legal k)) (touched_rows parts reading.unit) (touched_rows-in_range parts reading.unit)));
     }
 
-pub read-reads : (parts : Parts) (zones totals : List ℕ) (place : ℕ) (old new : Reading) → IsValid parts → IsLegalPlan parts zones → totals ≡ totals_of_plan parts zones → new.seat ≡ old.seat → new.front ≡ old.front → new.unit ≡ place → IsRead parts zones totals new → Reads parts zones place old new
+pub read-reads : (parts : Parts) (zones totals : List ℕ) (place : ℕ) (old new : Reading) → IsValid parts → IsLegalPlan parts zones → totals ≡ totals_of_plan parts zones → new.seat ≡ old.seat → new.front ≡ old.front → new.unit ≡ place → IsRead parts zones totals new → IsReadingOf parts zones place old new
 read-reads parts zones totals place old new valid legal are seat front unit read =
     let agrees : Agrees parts zones new = read-agrees parts zones totals new are read in
     record { seat = seat; front = front; unit = unit; well_formed = agrees-well_formed parts zones new valid legal read.unit agrees; agrees = agrees }

@@ -4,7 +4,7 @@ use Rattle.std.specs.Prelude.{IsTrue, slice_index}
 use Rattle.std.specs.List.{sum_by}
 use Rattle.std.proofs.lemmas.Bool.{ltb-false}
 use Rattle.mz_model.specs.declared.parts.Parts.{Parts}
-use Rattle.mz_model.specs.Parts.{unit_count, zone_count, row_count}
+use Rattle.mz_model.specs.Parts.{unit_count, zone_count, target_count}
 use Rattle.mz_num.specs.Places.{greatest_below}
 use Rattle.mz_model.specs.Plans.{IsLegalPlan}
 use Rattle.mz_model.specs.Scores.{penalty_of_plan, penalty_term_of}
@@ -14,7 +14,7 @@ use Rattle.mz_model.specs.Zones.{is_allowed}
 use Rattle.mz_num.proofs.PlaceLaws.{at-le-greatest_below}
 use Rattle.mz_model.proofs.ScoreLaws.{penalty_of_plan-is, plan-in_range}
 use Rattle.mz_model.proofs.ZoneLaws.{is_allowed-in_range}
-use Rattle.mz_delta.specs.Move.{moved}
+use Rattle.mz_model.specs.Move.{moved_plan}
 use Rattle.mz_delta.proofs.MoveLaws.{held-moved}
 use Rattle.mz_delta.proofs.SumLaws.{sum_below-where}
 
@@ -24,7 +24,7 @@ unfolding is_touched
 gain_of-not_touched parts unit row zone h fails = omega (arith, at-le-greatest_below (zone_count parts) zone (gain_of parts row unit) h, ltb-false 0 (greatest_below (zone_count parts) (gain_of parts row unit)) fails)
 
 -- what a plan holds for such a row stays
-pub held-not_touched : (parts : Parts) (zones : List ℕ) (unit zone row : ℕ) → IsValid parts → IsLegalPlan parts zones → unit < unit_count parts → IsTrue (is_allowed parts unit zone) → is_touched parts unit row ≡ false → held_of parts (moved zones unit zone) row ≡ held_of parts zones row
+pub held-not_touched : (parts : Parts) (zones : List ℕ) (unit zone row : ℕ) → IsValid parts → IsLegalPlan parts zones → unit < unit_count parts → IsTrue (is_allowed parts unit zone) → is_touched parts unit row ≡ false → held_of parts (moved_plan zones unit zone) row ≡ held_of parts zones row
 held-not_touched parts zones unit zone row valid legal h allowed fails =
     omega (
       arith,
@@ -38,13 +38,13 @@ abbrev pub near_penalty : Parts → List ℕ → ℕ → ℕ
 near_penalty parts zones row = penalty_term_of parts row (held_of parts zones row)
 
 pub penalty-moved : (parts : Parts) (zones : List ℕ) (unit zone : ℕ) → IsValid parts → IsLegalPlan parts zones → unit < unit_count parts → IsTrue (is_allowed parts unit zone)
-    → penalty_of_plan parts (moved zones unit zone) + sum_by (near_penalty parts zones) (touched_rows parts unit) ≡ penalty_of_plan parts zones + sum_by (near_penalty parts (moved zones unit zone)) (touched_rows parts unit)
+    → penalty_of_plan parts (moved_plan zones unit zone) + sum_by (near_penalty parts zones) (touched_rows parts unit) ≡ penalty_of_plan parts zones + sum_by (near_penalty parts (moved_plan zones unit zone)) (touched_rows parts unit)
 unfolding touched_rows
 penalty-moved parts zones unit zone valid legal h allowed =
     omega (
       arith,
       penalty_of_plan-is parts zones,
-      penalty_of_plan-is parts (moved zones unit zone),
-      sum_below-where (row_count parts) (is_touched parts unit) (near_penalty parts (moved zones unit zone)) (near_penalty parts zones)
+      penalty_of_plan-is parts (moved_plan zones unit zone),
+      sum_below-where (target_count parts) (is_touched parts unit) (near_penalty parts (moved_plan zones unit zone)) (near_penalty parts zones)
           (λ row i fails. ap (penalty_term_of parts row) (held-not_touched parts zones unit zone row valid legal h allowed fails)),
     )

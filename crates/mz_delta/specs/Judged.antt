@@ -3,12 +3,12 @@ use Rattle.std.specs.Prelude.{◌≡◌, ℕ, pos, ◌+ℤ◌, ◌-ℤ◌, List,
 use Rattle.mz_draw.specs.declared.draw.Draw.{Draw}
 use Rattle.mz_model.specs.declared.parts.Parts.{Parts}
 use Rattle.mz_model.specs.Plans.{IsLegalPlan}
-use Rattle.mz_model.specs.Scores.{boundary_of_plan, cost_of_plan, penalty_of_plan, score_of_plan}
+use Rattle.mz_model.specs.Scores.{boundary_of_plan, cost_of_plan, penalty_of_plan}
 use Rattle.mz_model.specs.Targets.{held_of, touched_rows}
 use Rattle.mz_model.specs.Zones.{step_of}
 use Rattle.mz_delta.specs.declared.judged.Judged.{Judged}
 use Rattle.mz_delta.specs.declared.reading.Reading.{Reading}
-use Rattle.mz_delta.specs.Move.{moved}
+use Rattle.mz_model.specs.Move.{change_of_score, moved_plan}
 use Rattle.mz_delta.specs.Reading.{Agrees, IsWellFormed}
 
 -- by how much a plan's score changes where its move leads to the other plan: the differences of the two whole scores;
@@ -18,7 +18,7 @@ pub record IsDifference (parts : Parts) (before after : List ℕ) (judged : Judg
   pub boundary : judged.boundary ≡ pos (boundary_of_plan parts after) -ℤ pos (boundary_of_plan parts before)
   pub penalty : judged.penalty ≡ pos (penalty_of_plan parts after) -ℤ pos (penalty_of_plan parts before)
   pub change : judged.change ≡ judged.cost +ℤ judged.boundary +ℤ judged.penalty
-  pub total : judged.change ≡ pos (score_of_plan parts after).total -ℤ pos (score_of_plan parts before).total
+  pub total : judged.change ≡ change_of_score parts before after
   pub totals : judged.totals.items ≡ map (held_of parts after) (touched_rows parts judged.unit)
 
 -- the move of the reading's unit to that zone, with a draw's number (its place among its seat's) and random word; what it says of score and totals holds
@@ -30,7 +30,7 @@ pub record IsJudged (parts : Parts) (reading : Reading) (zone place random : ℕ
   pub old : judged.old ≡ reading.zone
   pub new : judged.new ≡ zone
   pub word : judged.word ≡ random
-  pub difference : (zones : List ℕ) → IsLegalPlan parts zones → Agrees parts zones reading → IsDifference parts zones (moved zones reading.unit zone) judged
+  pub difference : (zones : List ℕ) → IsLegalPlan parts zones → Agrees parts zones reading → IsDifference parts zones (moved_plan zones reading.unit zone) judged
 
 -- the reading can be judged with the draw, and this is what comes of it: the move goes to the zone that the draw gives
 pub record IsRight (parts : Parts) (reading : Reading) (draw : Draw) (judged : Judged) : Type 0 where

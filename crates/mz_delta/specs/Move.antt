@@ -1,5 +1,5 @@
 -- The move of a reading's unit to a zone: what stands round the unit, in one of its zones.
-use Rattle.std.specs.Prelude.{ℕ, ◌+◌, ◌-◌, List, length, slice_index, slice_index_or, slice_set}
+use Rattle.std.specs.Prelude.{ℕ, ◌+◌, ◌-◌, List, length, slice_index, slice_index_or}
 use Rattle.mz_model.specs.declared.parts.Parts.{Parts}
 use Rattle.mz_model.specs.Boundary.{edge_term_of, neighbours_of}
 use Rattle.mz_model.specs.Parts.{outer_at}
@@ -7,10 +7,6 @@ use Rattle.mz_num.specs.Places.{list_below, sum_below}
 use Rattle.mz_model.specs.Scores.{penalty_term_of}
 use Rattle.mz_model.specs.Targets.{gain_of, touched_rows}
 use Rattle.mz_delta.specs.declared.reading.Reading.{Reading}
-
--- the plan with the unit in the zone
-abbrev pub moved : List ℕ → ℕ → ℕ → List ℕ
-moved zones unit zone = slice_set zones unit zone
 
 -- the term of a unit's pair with its neighbour i, the unit in the zone and the neighbour in the read one
 unfoldable pub neighbour_term : Parts → Reading → ℕ → ℕ → ℕ

@@ -3,7 +3,7 @@ use Rattle.std.specs.Prelude.{◌≡◌, ℕ, ◌<◌, ◌≤◌, ◌^◌, IsTru
 use Rattle.std.specs.List.{All}
 use Rattle.mz_model.specs.declared.parts.Parts.{Parts}
 use Rattle.mz_model.specs.Boundary.{neighbours_of}
-use Rattle.mz_model.specs.Parts.{unit_count, row_count}
+use Rattle.mz_model.specs.Parts.{unit_count, target_count}
 use Rattle.mz_num.specs.Places.{list_below}
 use Rattle.mz_model.specs.Targets.{held_of, touched_rows}
 use Rattle.mz_model.specs.Zones.{is_allowed}
@@ -35,10 +35,10 @@ pub record Agrees (parts : Parts) (zones : List ℕ) (reading : Reading) : Type 
 
 -- what a plan holds for each target row
 unfoldable pub totals_of_plan : Parts → List ℕ → List ℕ
-totals_of_plan parts zones = list_below (row_count parts) (held_of parts zones)
+totals_of_plan parts zones = list_below (target_count parts) (held_of parts zones)
 
 -- a reading of the unit at that place, well formed, with which the plan agrees; seat and front are those of the old one
-pub record Reads (parts : Parts) (zones : List ℕ) (place : ℕ) (old new : Reading) : Type 0 where
+pub record IsReadingOf (parts : Parts) (zones : List ℕ) (place : ℕ) (old new : Reading) : Type 0 where
   pub seat : new.seat ≡ old.seat
   pub front : new.front ≡ old.front
   pub unit : new.unit ≡ place

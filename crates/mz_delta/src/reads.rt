@@ -1,11 +1,11 @@
 //! Readings of a plan.
 ghost use Rattle.std.specs.Prelude.{◌≡◌, ◌<◌, ◌≤◌, IfOk, length, map, slice_index};
 ghost use Rattle.mz_model.specs.Boundary.{neighbours_of};
-ghost use Rattle.mz_model.specs.Parts.{unit_count, row_count};
+ghost use Rattle.mz_model.specs.Parts.{unit_count, target_count};
 ghost use Rattle.mz_model.specs.Plans.{IsLegalPlan};
 ghost use Rattle.mz_model.specs.Targets.{touched_rows};
 ghost use Rattle.mz_model.specs.Valid.{IsValid};
-ghost use Rattle.mz_delta.specs.Reading.{Reads, totals_of_plan, zones_around};
+ghost use Rattle.mz_delta.specs.Reading.{IsReadingOf, totals_of_plan, zones_around};
 ghost use Rattle.mz_delta.specs.Rooms.{FitsReading, greatest_degree, greatest_touched};
 
 use crate::reading::Reading;
@@ -31,7 +31,7 @@ pub fn read_plan(problem: &Problem, plan: &Plan, totals: &[u64], unit: u32, read
     requires totals { totals.now ≡ totals_of_plan problem.now plan.now }
     requires unit { unit < unit_count problem.now }
     requires fits { FitsReading problem.now reading.old }
-    ensures reads { Reads problem.now plan.now unit reading.old reading.new }
+    ensures reads { IsReadingOf problem.now plan.now unit reading.old reading.new }
     ensures fits { FitsReading problem.now reading.new }
 {
     reading.unit = unit;
@@ -57,7 +57,7 @@ fn read_neighbours(problem: &Problem, plan: &Plan, unit: u32, zones: &mut Filled
 /// The totals of the target rows that a unit touches.
 fn read_totals(problem: &Problem, totals: &[u64], unit: u32, read: &mut Filled<u64>)
     requires unit { unit < unit_count problem.now }
-    requires totals { length totals.now ≡ row_count problem.now }
+    requires totals { length totals.now ≡ target_count problem.now }
     requires fits { greatest_touched problem.now ≤ read.old.room }
     ensures totals { read.new.items ≡ map (slice_index totals.now) (touched_rows problem.now unit) }
     ensures room { read.old.room ≤ read.new.room }

@@ -15,7 +15,7 @@ use Rattle.mz_model.specs.Amounts.{amount_of, holder_of, holders_of}
 use Rattle.mz_model.specs.Boundary.{ends_of, neighbours_of}
 use Rattle.mz_model.specs.Built.{greatest_part_in, greatest_part_of, touching}
 use Rattle.mz_model.specs.Groups.{filled}
-use Rattle.mz_model.specs.Parts.{unit_count, zone_count, feature_count, row_count, fraction_at, no_target, target_at}
+use Rattle.mz_model.specs.Parts.{unit_count, zone_count, feature_count, target_count, fraction_at, no_target, target_at}
 use Rattle.mz_num.specs.Places.{greatest_below, list_below, places_below, values_at}
 use Rattle.mz_model.specs.Targets.{counted, gain_from, gain_of, amount_for, is_touched, touched_rows, touches_of}
 use Rattle.mz_model.specs.Valid.{IsPair, IsValid}
@@ -178,14 +178,14 @@ some_inside : (n : ℕ) (zone : Option ℕ) → IsSomeAnd zone (λ z. z < n) →
 some_inside n None is = tt
 some_inside n (Some zone) is = is
 
-pub zone-inside : (parts : Parts) (row : ℕ) → IsValid parts → row < row_count parts → IsSomeOrNone (zone_count parts) (target_at parts row).zone
+pub zone-inside : (parts : Parts) (row : ℕ) → IsValid parts → row < target_count parts → IsSomeOrNone (zone_count parts) (target_at parts row).zone
 zone-inside parts row valid h =
     elim (cases_lt row (feature_count parts)) [
       | inl overall ↦ none_inside (zone_count parts) (target_at parts row).zone (valid.shape.overall_rows row overall).everywhere
       | inr zonal ↦ some_inside (zone_count parts) (target_at parts row).zone (valid.shape.zone_rows row zonal h).zone
     ]
 
-pub feature-inside : (parts : Parts) (row : ℕ) → IsValid parts → row < row_count parts → (target_at parts row).feature < feature_count parts
+pub feature-inside : (parts : Parts) (row : ℕ) → IsValid parts → row < target_count parts → (target_at parts row).feature < feature_count parts
 feature-inside parts row valid h =
     elim (cases_lt row (feature_count parts)) [
       | inl overall ↦ omega (arith, (valid.shape.overall_rows row overall).own)
@@ -219,7 +219,7 @@ touches_upto-more parts row unit =
     ∙ ap (λ es. touches_upto parts row unit ++ es) (elim (is_touched parts unit row) as (λ b. ◌≡◌ {A = List (ℕ × ℕ)} (map entry (cond b (row ∷ []) [])) (cond b (entry row ∷ []) [])) [ true ↦ refl | false ↦ refl ])
 
 -- the lists behind one more row
-pub touches-more : (parts : Parts) (row part : ℕ) (holders : List (ℕ × ℕ)) (lists lists' : List (List (ℕ × ℕ))) → IsValid parts → row < row_count parts → part ≡ greatest_part_of parts (target_at parts row) → holders ≡ holders_of parts.amounts (target_at parts row).feature → lists ≡ list_below (unit_count parts) (touches_upto parts row) → lists' ≡ filled lists (touching row part holders) → lists' ≡ list_below (unit_count parts) (touches_upto parts (row + 1))
+pub touches-more : (parts : Parts) (row part : ℕ) (holders : List (ℕ × ℕ)) (lists lists' : List (List (ℕ × ℕ))) → IsValid parts → row < target_count parts → part ≡ greatest_part_of parts (target_at parts row) → holders ≡ holders_of parts.amounts (target_at parts row).feature → lists ≡ list_below (unit_count parts) (touches_upto parts row) → lists' ≡ filled lists (touching row part holders) → lists' ≡ list_below (unit_count parts) (touches_upto parts (row + 1))
 touches-more parts row part holders lists lists' valid h e f now more =
     let es : List (ℕ × (ℕ × ℕ)) = touching row part holders in
     let len : length lists ≡ unit_count parts = ap length now ∙ length-list_below {X = List (ℕ × ℕ)} (unit_count parts) (touches_upto parts row) in
@@ -232,7 +232,7 @@ touches-more parts row part holders lists lists' valid h e f now more =
 pub touches-none : (parts : Parts) → empty_lists (unit_count parts) ≡ list_below (unit_count parts) (touches_upto parts 0)
 touches-none parts = list_below-same {X = List (ℕ × ℕ)} (unit_count parts) (λ k. []) (touches_upto parts 0) [] (λ k i. refl)
 
-pub touches-done : (parts : Parts) (n : ℕ) (lists : List (List (ℕ × ℕ))) → n ≡ row_count parts → lists ≡ list_below (unit_count parts) (touches_upto parts n) → lists ≡ list_below (unit_count parts) (touches_of parts)
+pub touches-done : (parts : Parts) (n : ℕ) (lists : List (List (ℕ × ℕ))) → n ≡ target_count parts → lists ≡ list_below (unit_count parts) (touches_upto parts n) → lists ≡ list_below (unit_count parts) (touches_of parts)
 unfolding touches_of touched_rows
 touches-done parts n lists e now = now ∙ ap (λ m. list_below (unit_count parts) (touches_upto parts m)) e
 
@@ -242,7 +242,7 @@ pub record IsRead (parts : Parts) (row : ℕ) (target : Target) (holders : List 
   pub inside : target.feature < length holders
   pub holders_are : get_or holders target.feature [] ≡ holders_of parts.amounts (target_at parts row).feature
 
-pub row-read : (parts : Parts) (row : ℕ) (targets : List Target) (holders : List (List (ℕ × ℕ))) → IsValid parts → row < row_count parts → targets ≡ parts.targets → holders ≡ list_below (feature_count parts) (holders_of parts.amounts) → IsRead parts row (get_or targets row no_target) holders
+pub row-read : (parts : Parts) (row : ℕ) (targets : List Target) (holders : List (List (ℕ × ℕ))) → IsValid parts → row < target_count parts → targets ≡ parts.targets → holders ≡ list_below (feature_count parts) (holders_of parts.amounts) → IsRead parts row (get_or targets row no_target) holders
 row-read parts row targets holders valid h e table =
     let is : get_or targets row no_target ≡ target_at parts row = ap (λ ts. get_or ts row no_target) e in
     let feature : (get_or targets row no_target).feature < feature_count parts = subst (λ (t : Target). t.feature < feature_count parts) (sym is) (feature-inside parts row valid h) in

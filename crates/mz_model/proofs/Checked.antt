@@ -10,7 +10,7 @@ use Rattle.mz_model.specs.declared.parts.Parts.{Parts}
 use Rattle.mz_model.specs.declared.parts.Target.{Target}
 use Rattle.mz_model.specs.Amounts.{total_of}
 use Rattle.mz_model.specs.Boundary.{greatest_rate, IsLength}
-use Rattle.mz_model.specs.Parts.{unit_count, zone_count, feature_count, row_count, cost_at, rate_at, target_at}
+use Rattle.mz_model.specs.Parts.{unit_count, zone_count, feature_count, target_count, cost_at, rate_at, target_at}
 use Rattle.mz_num.specs.Places.{sum_below, greatest_below}
 use Rattle.mz_model.specs.Targets.{gain_of}
 use Rattle.mz_num.specs.Order.{IsBefore}
@@ -123,21 +123,21 @@ length_from parts len test =
     }
 
 abbrev pub small_tests : Parts → List Bool
-small_tests parts = nat_le (unit_count parts) 100000 ∷ nat_le (zone_count parts) 60 ∷ nat_le (feature_count parts) 10000 ∷ nat_le (row_count parts) 100000 ∷ nat_le (length parts.edges) 1000000 ∷ nat_le (length parts.amounts) 5000000 ∷ []
+small_tests parts = nat_le (unit_count parts) 100000 ∷ nat_le (zone_count parts) 60 ∷ nat_le (feature_count parts) 10000 ∷ nat_le (target_count parts) 100000 ∷ nat_le (length parts.edges) 1000000 ∷ nat_le (length parts.amounts) 5000000 ∷ []
 
 abbrev pub shape_tests : Parts → List Bool
 shape_tests parts =
     pairs_all differ parts.unit_ids ∷ pairs_all differ parts.zone_ids ∷ pairs_all differ parts.feature_ids ∷ (length parts.names == feature_count parts) ∷ nat_lt parts.available (zone_count parts)
     ∷ (length parts.allowed == unit_count parts) ∷ all_below (unit_count parts) (λ unit. is_zone_set (zone_count parts) (slice_index parts.allowed unit)) ∷ (length parts.costs == unit_count parts * zone_count parts) ∷ (length parts.rates == zone_count parts * zone_count parts)
-    ∷ all_below (zone_count parts) (λ k. all_below (zone_count parts) (λ l. rate_at parts k l == rate_at parts l k)) ∷ list_all (is_pair (unit_count parts)) parts.edges ∷ pairs_all is_before parts.edges ∷ (length parts.outer == unit_count parts) ∷ nat_le (feature_count parts) (row_count parts)
-    ∷ all_below (feature_count parts) (λ row. is_overall_row row (target_at parts row)) ∷ all_below (row_count parts) (λ row. nat_lt row (feature_count parts) || is_zone_row (zone_count parts) (feature_count parts) (target_at parts row))
+    ∷ all_below (zone_count parts) (λ k. all_below (zone_count parts) (λ l. rate_at parts k l == rate_at parts l k)) ∷ list_all (is_pair (unit_count parts)) parts.edges ∷ pairs_all is_before parts.edges ∷ (length parts.outer == unit_count parts) ∷ nat_le (feature_count parts) (target_count parts)
+    ∷ all_below (feature_count parts) (λ row. is_overall_row row (target_at parts row)) ∷ all_below (target_count parts) (λ row. nat_lt row (feature_count parts) || is_zone_row (zone_count parts) (feature_count parts) (target_at parts row))
     ∷ list_all (is_amount (unit_count parts) (feature_count parts)) parts.amounts ∷ pairs_all is_before parts.amounts ∷ (length parts.fractions == zone_count parts * feature_count parts) ∷ []
 
 abbrev pub limit_tests : Parts → List Bool
 limit_tests parts =
     nat_le (sum_below (unit_count parts) (λ unit. greatest_below (zone_count parts) (cost_at parts unit))) (10 ^ 18) ∷ list_all (λ rate. nat_le rate (10 ^ 18)) parts.rates ∷ list_all (λ (edge : ℕ × ℕ × ℕ). is_length parts edge.2) parts.edges ∷ list_all (is_length parts) parts.outer
-    ∷ all_below (feature_count parts) (λ feature. nat_le (total_of parts.amounts feature) (10 ^ 18)) ∷ all_below (row_count parts) (λ row. nat_le (sum_below (unit_count parts) (λ unit. greatest_below (zone_count parts) (gain_of parts row unit))) (10 ^ 18))
-    ∷ all_below (row_count parts) (λ row. nat_le (target_at parts row).level (10 ^ 18)) ∷ all_below (row_count parts) (λ row. nat_le (target_at parts row).weight (10 ^ 18)) ∷ []
+    ∷ all_below (feature_count parts) (λ feature. nat_le (total_of parts.amounts feature) (10 ^ 18)) ∷ all_below (target_count parts) (λ row. nat_le (sum_below (unit_count parts) (λ unit. greatest_below (zone_count parts) (gain_of parts row unit))) (10 ^ 18))
+    ∷ all_below (target_count parts) (λ row. nat_le (target_at parts row).level (10 ^ 18)) ∷ all_below (target_count parts) (λ row. nat_le (target_at parts row).weight (10 ^ 18)) ∷ []
 
 small_from : (parts : Parts) → list_all (λ test. test) (small_tests parts) ≡ true → IsSmall parts
 small_from parts all =
@@ -146,7 +146,7 @@ small_from parts all =
       units = leb-true (unit_count parts) 100000 (at 0 true (lit< tt));
       zones = leb-true (zone_count parts) 60 (at 1 true (lit< tt));
       features = leb-true (feature_count parts) 10000 (at 2 true (lit< tt));
-      rows = leb-true (row_count parts) 100000 (at 3 true (lit< tt));
+      rows = leb-true (target_count parts) 100000 (at 3 true (lit< tt));
       edges = leb-true (length parts.edges) 1000000 (at 4 true (lit< tt));
       amounts = leb-true (length parts.amounts) 5000000 (at 5 true (lit< tt));
     }
@@ -175,9 +175,9 @@ shape_from parts all =
       pairs = from_list_all (IsPair (unit_count parts)) (is_pair (unit_count parts)) parts.edges (pair_from (unit_count parts)) (at 10 true (lit< tt));
       pairs_in_order = order_from parts.edges (at 11 true (lit< tt));
       outer = eqb-true (length parts.outer) (unit_count parts) (at 12 true (lit< tt));
-      enough_rows = leb-true (feature_count parts) (row_count parts) (at 13 true (lit< tt));
+      enough_rows = leb-true (feature_count parts) (target_count parts) (at 13 true (lit< tt));
       overall_rows = λ row h. overall_row_from row (target_at parts row) (all_below-at (feature_count parts) row (λ r. is_overall_row r (target_at parts r)) (at 14 true (lit< tt)) h);
-      zone_rows = λ row h i. zone_row_at parts row (all_below-at (row_count parts) row (λ r. nat_lt r (feature_count parts) || is_zone_row (zone_count parts) (feature_count parts) (target_at parts r)) (at 15 true (lit< tt)) i) h;
+      zone_rows = λ row h i. zone_row_at parts row (all_below-at (target_count parts) row (λ r. nat_lt r (feature_count parts) || is_zone_row (zone_count parts) (feature_count parts) (target_at parts r)) (at 15 true (lit< tt)) i) h;
       amounts = from_list_all (IsAmount (unit_count parts) (feature_count parts)) (is_amount (unit_count parts) (feature_count parts)) parts.amounts (amount_from (unit_count parts) (feature_count parts)) (at 16 true (lit< tt));
       amounts_in_order = order_from parts.amounts (at 17 true (lit< tt));
       fractions = eqb-true (length parts.fractions) (zone_count parts * feature_count parts) (at 18 true (lit< tt));
@@ -192,9 +192,9 @@ limits_from parts all =
       pairs = from_list_all (λ (edge : ℕ × ℕ × ℕ). IsLength parts edge.2) (λ (edge : ℕ × ℕ × ℕ). is_length parts edge.2) parts.edges (λ edge test. length_from parts edge.2 test) (at 2 true (lit< tt));
       outer = from_list_all (IsLength parts) (is_length parts) parts.outer (length_from parts) (at 3 true (lit< tt));
       amount = λ feature h. leb-true (total_of parts.amounts feature) (10 ^ 18) (all_below-at (feature_count parts) feature (λ f. nat_le (total_of parts.amounts f) (10 ^ 18)) (at 4 true (lit< tt)) h);
-      gain = λ row h. leb-true (sum_below (unit_count parts) (λ unit. greatest_below (zone_count parts) (gain_of parts row unit))) (10 ^ 18) (all_below-at (row_count parts) row (λ r. nat_le (sum_below (unit_count parts) (λ unit. greatest_below (zone_count parts) (gain_of parts r unit))) (10 ^ 18)) (at 5 true (lit< tt)) h);
-      level = λ row h. leb-true (target_at parts row).level (10 ^ 18) (all_below-at (row_count parts) row (λ r. nat_le (target_at parts r).level (10 ^ 18)) (at 6 true (lit< tt)) h);
-      weight = λ row h. leb-true (target_at parts row).weight (10 ^ 18) (all_below-at (row_count parts) row (λ r. nat_le (target_at parts r).weight (10 ^ 18)) (at 7 true (lit< tt)) h);
+      gain = λ row h. leb-true (sum_below (unit_count parts) (λ unit. greatest_below (zone_count parts) (gain_of parts row unit))) (10 ^ 18) (all_below-at (target_count parts) row (λ r. nat_le (sum_below (unit_count parts) (λ unit. greatest_below (zone_count parts) (gain_of parts r unit))) (10 ^ 18)) (at 5 true (lit< tt)) h);
+      level = λ row h. leb-true (target_at parts row).level (10 ^ 18) (all_below-at (target_count parts) row (λ r. nat_le (target_at parts r).level (10 ^ 18)) (at 6 true (lit< tt)) h);
+      weight = λ row h. leb-true (target_at parts row).weight (10 ^ 18) (all_below-at (target_count parts) row (λ r. nat_le (target_at parts r).weight (10 ^ 18)) (at 7 true (lit< tt)) h);
     }
 
 -- parts that pass each test are a problem

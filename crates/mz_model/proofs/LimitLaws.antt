@@ -8,7 +8,7 @@ use Rattle.mz_num.specs.Round.{round}
 use Rattle.mz_num.proofs.RoundLaws.{round-mono}
 use Rattle.mz_model.specs.declared.parts.Parts.{Parts}
 use Rattle.mz_model.specs.Boundary.{edge_term_of, greatest_rate, IsLength}
-use Rattle.mz_model.specs.Parts.{unit_count, zone_count, row_count, cost_at, rate_at, outer_at}
+use Rattle.mz_model.specs.Parts.{unit_count, zone_count, target_count, cost_at, rate_at, outer_at}
 use Rattle.mz_num.specs.Places.{sum_below, greatest_below}
 use Rattle.mz_model.specs.Targets.{gain_of}
 use Rattle.mz_model.specs.Valid.{IsValid}
@@ -49,7 +49,7 @@ edge_round-le parts len k l valid is h i = edge_term_of-le parts len k l valid i
 pub outer_at-length : (parts : Parts) (unit : ℕ) → IsValid parts → unit < unit_count parts → IsLength parts (outer_at parts unit)
 outer_at-length parts unit valid h = All-get_or (IsLength parts) parts.outer unit 0 (subst (λ n. unit < n) (sym valid.shape.outer) h) valid.limits.outer
 
-pub gain_of-le : (parts : Parts) (row unit zone : ℕ) → IsValid parts → row < row_count parts → unit < unit_count parts → zone < zone_count parts → gain_of parts row unit zone ≤ 10 ^ 18
+pub gain_of-le : (parts : Parts) (row unit zone : ℕ) → IsValid parts → row < target_count parts → unit < unit_count parts → zone < zone_count parts → gain_of parts row unit zone ≤ 10 ^ 18
 gain_of-le parts row unit zone valid g h i =
     let top : gain_of parts row unit zone ≤ greatest_below (zone_count parts) (gain_of parts row unit) = at-le-greatest_below (zone_count parts) zone (gain_of parts row unit) i in
     let all : greatest_below (zone_count parts) (gain_of parts row unit) ≤ sum_below (unit_count parts) (λ u. greatest_below (zone_count parts) (gain_of parts row u)) = at-le-sum_below (unit_count parts) unit (λ u. greatest_below (zone_count parts) (gain_of parts row u)) h in

@@ -6,7 +6,7 @@ use Rattle.std.proofs.lemmas.List.Sums.{sum_by-le}
 use Rattle.mz_model.specs.declared.parts.Parts.{Parts}
 use Rattle.mz_model.specs.declared.score.Score.{Score}
 use Rattle.mz_model.specs.Boundary.{edge_term_of, IsLength}
-use Rattle.mz_model.specs.Parts.{unit_count, zone_count, row_count, cost_at, outer_at}
+use Rattle.mz_model.specs.Parts.{unit_count, zone_count, target_count, cost_at, outer_at}
 use Rattle.mz_num.specs.Places.{sum_below}
 use Rattle.mz_model.specs.Plans.{IsLegalPlan}
 use Rattle.mz_model.specs.Scores.{cost_of_plan, pair_term, outer_term, boundary_of_plan, penalty_term_of, penalty_of_plan, score_of_plan}
@@ -37,7 +37,7 @@ pub boundary_of_plan-is : (parts : Parts) (zones : List ℕ) → boundary_of_pla
 unfolding boundary_of_plan
 boundary_of_plan-is parts zones = refl
 
-pub penalty_of_plan-is : (parts : Parts) (zones : List ℕ) → penalty_of_plan parts zones ≡ sum_below (row_count parts) (λ row. penalty_term_of parts row (held_of parts zones row))
+pub penalty_of_plan-is : (parts : Parts) (zones : List ℕ) → penalty_of_plan parts zones ≡ sum_below (target_count parts) (λ row. penalty_term_of parts row (held_of parts zones row))
 unfolding penalty_of_plan
 penalty_of_plan-is parts zones = refl
 
@@ -63,7 +63,7 @@ outer_terms-le parts zones valid legal =
 
 pub penalty_of_plan-le : (parts : Parts) (zones : List ℕ) → IsValid parts → penalty_of_plan parts zones ≤ 10 ^ 23
 penalty_of_plan-le parts zones valid =
-    omega (arith, penalty_of_plan-is parts zones, valid.small.rows, sum_below-le (row_count parts) (10 ^ 18) (λ row. penalty_term_of parts row (held_of parts zones row)) (λ row h. omega (arith, penalty_term_of-le parts row (held_of parts zones row), valid.limits.weight row h)))
+    omega (arith, penalty_of_plan-is parts zones, valid.small.rows, sum_below-le (target_count parts) (10 ^ 18) (λ row. penalty_term_of parts row (held_of parts zones row)) (λ row h. omega (arith, penalty_term_of-le parts row (held_of parts zones row), valid.limits.weight row h)))
 
 -- no score is above 10^25
 pub score-le : (parts : Parts) (zones : List ℕ) → IsValid parts → IsLegalPlan parts zones → cost_of_plan parts zones + boundary_of_plan parts zones + penalty_of_plan parts zones ≤ 10 ^ 25

@@ -10,7 +10,7 @@ use Rattle.mz_num.proofs.RoundLaws.{round-le}
 use Rattle.mz_model.specs.declared.parts.Parts.{Parts}
 use Rattle.mz_model.specs.declared.parts.Target.{Target}
 use Rattle.mz_model.specs.Amounts.{holders_of}
-use Rattle.mz_model.specs.Parts.{unit_count, zone_count, feature_count, row_count, fraction_at, target_at}
+use Rattle.mz_model.specs.Parts.{unit_count, zone_count, feature_count, target_count, fraction_at, target_at}
 use Rattle.mz_num.specs.Places.{sum_below, greatest_below}
 use Rattle.mz_model.specs.Scores.{penalty_term_of}
 use Rattle.mz_model.specs.Targets.{counted, gain_from, amount_for, gain_of, held_of, shortfall_of}
@@ -56,7 +56,7 @@ held_of-holders parts zones t valid =
     (All-weaker (IsAmount (unit_count parts) (feature_count parts)) (λ row. row.0 < unit_count parts) (λ row is. is.unit) parts.amounts valid.shape.amounts)
 
 -- where each unit is in a zone of the problem, what is held is within the limit
-pub held_of-le : (parts : Parts) (zones : List ℕ) (t : ℕ) → IsValid parts → t < row_count parts → ((unit : ℕ) → unit < unit_count parts → slice_index zones unit < zone_count parts) → held_of parts zones t ≤ 10 ^ 18
+pub held_of-le : (parts : Parts) (zones : List ℕ) (t : ℕ) → IsValid parts → t < target_count parts → ((unit : ℕ) → unit < unit_count parts → slice_index zones unit < zone_count parts) → held_of parts zones t ≤ 10 ^ 18
 unfolding held_of
 held_of-le parts zones t valid h inside =
     let below : sum_below (unit_count parts) (λ unit. gain_of parts t unit (slice_index zones unit)) ≤ sum_below (unit_count parts) (λ unit. greatest_below (zone_count parts) (gain_of parts t unit)) =

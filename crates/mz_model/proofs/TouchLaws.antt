@@ -10,7 +10,7 @@ use Rattle.std.specs.List.{All, AllPairs, Contains, HoldsAt}
 use Rattle.std.proofs.lemmas.List.{length-map, get_or-map, get_or_default}
 use Rattle.std.proofs.lemmas.List.Elements.{All-map, All-get_or}
 use Rattle.mz_model.specs.declared.parts.Parts.{Parts}
-use Rattle.mz_model.specs.Parts.{unit_count, zone_count, row_count}
+use Rattle.mz_model.specs.Parts.{unit_count, zone_count, target_count}
 use Rattle.mz_num.specs.Places.{greatest_below}
 use Rattle.mz_model.specs.Targets.{amount_for, gain_from, gain_of, is_touched, touched_rows, touches_of}
 use Rattle.mz_model.specs.Valid.{IsValid}
@@ -18,21 +18,21 @@ use Rattle.mz_model.proofs.LimitLaws.{gain_of-le}
 use Rattle.mz_model.proofs.TargetLaws.{gain_of-is}
 use Rattle.mz_num.proofs.PlaceLaws.{length-places_below, places_below-in_range, places_below-has, places_below-rising, at-le-greatest_below}
 
-pub touched_rows-in_range : (parts : Parts) (unit : ℕ) → All (λ row. row < row_count parts) (touched_rows parts unit)
+pub touched_rows-in_range : (parts : Parts) (unit : ℕ) → All (λ row. row < target_count parts) (touched_rows parts unit)
 unfolding touched_rows
-touched_rows-in_range parts unit = places_below-in_range (row_count parts) (is_touched parts unit)
+touched_rows-in_range parts unit = places_below-in_range (target_count parts) (is_touched parts unit)
 
-pub length-touched_rows : (parts : Parts) (unit : ℕ) → length (touched_rows parts unit) ≤ row_count parts
+pub length-touched_rows : (parts : Parts) (unit : ℕ) → length (touched_rows parts unit) ≤ target_count parts
 unfolding touched_rows
-length-touched_rows parts unit = length-places_below (row_count parts) (is_touched parts unit)
+length-touched_rows parts unit = length-places_below (target_count parts) (is_touched parts unit)
 
 pub length-touches_of : (parts : Parts) (unit : ℕ) → length (touches_of parts unit) ≡ length (touched_rows parts unit)
 unfolding touches_of
 length-touches_of parts unit = length-map (touched_rows parts unit) (λ row. (row, amount_for parts row unit))
 
-pub touches_of-in_range : (parts : Parts) (unit : ℕ) → All (λ touch. touch.0 < row_count parts) (touches_of parts unit)
+pub touches_of-in_range : (parts : Parts) (unit : ℕ) → All (λ touch. touch.0 < target_count parts) (touches_of parts unit)
 unfolding touches_of
-touches_of-in_range parts unit = All-map (λ touch. touch.0 < row_count parts) (λ row. (row, amount_for parts row unit)) (touched_rows parts unit) (touched_rows-in_range parts unit)
+touches_of-in_range parts unit = All-map (λ touch. touch.0 < target_count parts) (λ row. (row, amount_for parts row unit)) (touched_rows parts unit) (touched_rows-in_range parts unit)
 
 -- the entry at a place: the row, and the unit's amount for it
 pub get_or-touches_of : (parts : Parts) (unit i : ℕ) (d : ℕ × ℕ) → i < length (touched_rows parts unit) → get_or (touches_of parts unit) i d ≡ (get_or (touched_rows parts unit) i 0, amount_for parts (get_or (touched_rows parts unit) i 0) unit)
@@ -47,7 +47,7 @@ gain_from-touch parts unit i zone touches e h =
 
 -- it is within the limit
 pub gain_of-touched-le : (parts : Parts) (unit i zone : ℕ) → IsValid parts → unit < unit_count parts → zone < zone_count parts → i < length (touched_rows parts unit) → gain_of parts (get_or (touched_rows parts unit) i 0) unit zone ≤ 10 ^ 18
-gain_of-touched-le parts unit i zone valid u z h = gain_of-le parts (get_or (touched_rows parts unit) i 0) unit zone valid (All-get_or (λ row. row < row_count parts) (touched_rows parts unit) i 0 h (touched_rows-in_range parts unit)) u z
+gain_of-touched-le parts unit i zone valid u z h = gain_of-le parts (get_or (touched_rows parts unit) i 0) unit zone valid (All-get_or (λ row. row < target_count parts) (touched_rows parts unit) i 0 h (touched_rows-in_range parts unit)) u z
 
 -- ---- the search for a row
 
@@ -61,11 +61,11 @@ not-greater : (a b : ℕ) → a ≡ b → nat_cmp a b ≡ Greater → ⊥
 not-greater a b e greater = grind (arith, nat_tests)
 
 -- a row that isn't touched gains nothing
-pub gain_of-untouched : (parts : Parts) (row unit zone : ℕ) → row < row_count parts → zone < zone_count parts → (Contains (touched_rows parts unit) row → ⊥) → gain_of parts row unit zone ≡ 0
+pub gain_of-untouched : (parts : Parts) (row unit zone : ℕ) → row < target_count parts → zone < zone_count parts → (Contains (touched_rows parts unit) row → ⊥) → gain_of parts row unit zone ≡ 0
 unfolding touched_rows is_touched
 gain_of-untouched parts row unit zone h z none =
     elim (cases_Bool (nat_lt 0 (greatest_below (zone_count parts) (gain_of parts row unit)))) [
-      | inl touched ↦ absurd (none (places_below-has (row_count parts) row (is_touched parts unit) h touched))
+      | inl touched ↦ absurd (none (places_below-has (target_count parts) row (is_touched parts unit) h touched))
       | inr not_touched ↦ (
           let nothing : greatest_below (zone_count parts) (gain_of parts row unit) ≤ 0 = ltb-false 0 (greatest_below (zone_count parts) (gain_of parts row unit)) not_touched in
           omega (arith, at-le-greatest_below (zone_count parts) zone (gain_of parts row unit) z))
@@ -73,7 +73,7 @@ gain_of-untouched parts row unit zone h z none =
 
 touched_rows-rising : (parts : Parts) (unit : ℕ) → AllPairs (λ a b. a < b) (touched_rows parts unit)
 unfolding touched_rows
-touched_rows-rising parts unit = places_below-rising (row_count parts) (is_touched parts unit)
+touched_rows-rising parts unit = places_below-rising (target_count parts) (is_touched parts unit)
 
 -- the row of an entry
 touch-row : (parts : Parts) (unit i : ℕ) (d : ℕ × ℕ) (touches : List (ℕ × ℕ)) → touches ≡ touches_of parts unit → i < length touches → (get_or touches i d).0 ≡ get_or (touched_rows parts unit) i 0

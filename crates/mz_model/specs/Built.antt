@@ -12,7 +12,7 @@ use Rattle.mz_model.specs.Valid.{IsValid}
 use Rattle.mz_model.specs.Zones.{allowed_zones, free_units, counts_of}
 
 -- each list is the one that the parts say
-pub record IsBuilt (parts : Parts) (zones : List (List ℕ)) (free counts : List ℕ) (neighbours holders touches : List (List (ℕ × ℕ))) : Type 0 where
+pub record AreListsOf (parts : Parts) (zones : List (List ℕ)) (free counts : List ℕ) (neighbours holders touches : List (List (ℕ × ℕ))) : Type 0 where
   pub valid : IsValid parts
   pub zones_are : zones ≡ list_below (unit_count parts) (allowed_zones parts)
   pub free_are : free ≡ free_units parts

@@ -4,6 +4,7 @@ pub mod Built
 pub mod Examples
 pub mod Groups
 pub mod Items
+pub mod Move
 pub mod Parts
 pub mod Plans
 pub mod Scores

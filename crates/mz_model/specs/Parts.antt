@@ -12,8 +12,8 @@ zone_count parts = length parts.zone_ids
 abbrev pub feature_count : Parts → ℕ
 feature_count parts = length parts.feature_ids
 
-abbrev pub row_count : Parts → ℕ
-row_count parts = length parts.targets
+abbrev pub target_count : Parts → ℕ
+target_count parts = length parts.targets
 
 -- the cost term of a unit in a zone
 abbrev pub cost_at : Parts → ℕ → ℕ → ℕ

@@ -5,7 +5,7 @@ use Rattle.mz_num.specs.Round.{round}
 use Rattle.mz_model.specs.declared.parts.Parts.{Parts}
 use Rattle.mz_model.specs.declared.score.Score.{Score}
 use Rattle.mz_model.specs.Boundary.{edge_term_of}
-use Rattle.mz_model.specs.Parts.{unit_count, row_count, cost_at, outer_at, target_at}
+use Rattle.mz_model.specs.Parts.{unit_count, target_count, cost_at, outer_at, target_at}
 use Rattle.mz_num.specs.Places.{sum_below}
 use Rattle.mz_model.specs.Targets.{held_of, shortfall_of}
 
@@ -32,7 +32,7 @@ penalty_term_of parts row held = cond (nat_lt 0 (target_at parts row).level) (ro
 
 -- the penalty of a plan: that of all target rows
 unfoldable pub penalty_of_plan : Parts → List ℕ → ℕ
-penalty_of_plan parts zones = sum_below (row_count parts) (λ row. penalty_term_of parts row (held_of parts zones row))
+penalty_of_plan parts zones = sum_below (target_count parts) (λ row. penalty_term_of parts row (held_of parts zones row))
 
 -- the score of a plan
 abbrev pub score_of_plan : Parts → List ℕ → Score

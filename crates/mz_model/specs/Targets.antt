@@ -1,9 +1,9 @@
 -- Target rows: what a plan holds for a row, how much it falls short, and when the row is met.
-use Rattle.std.specs.Prelude.{ℕ, ◌-◌, ◌*◌, ◌≤◌, Bool, cond, List, map, Option, None, Some, slice_index, ◌==◌, nat_lt}
+use Rattle.std.specs.Prelude.{ℕ, ◌-◌, ◌*◌, ◌≤◌, Bool, cond, List, map, Option, None, Some, slice_index, ◌==◌, nat_le, nat_lt}
 use Rattle.mz_num.specs.Round.{round}
 use Rattle.mz_model.specs.declared.parts.Parts.{Parts}
 use Rattle.mz_model.specs.Amounts.{amount_of}
-use Rattle.mz_model.specs.Parts.{unit_count, zone_count, row_count, fraction_at, target_at}
+use Rattle.mz_model.specs.Parts.{unit_count, zone_count, target_count, fraction_at, target_at}
 use Rattle.mz_num.specs.Places.{sum_below, greatest_below, places_below}
 
 -- what an amount in a zone counts: for an overall row, which has no zone, the rounded part of it that the
@@ -32,6 +32,14 @@ held_of parts zones row = sum_below (unit_count parts) (λ unit. gain_of parts r
 unfoldable pub shortfall_of : Parts → ℕ → ℕ → ℕ
 shortfall_of parts row held = (target_at parts row).level - held
 
+-- the shortfall of a plan: that of all target rows
+unfoldable pub shortfall_of_plan : Parts → List ℕ → ℕ
+shortfall_of_plan parts zones = sum_below (target_count parts) (λ row. shortfall_of parts row (held_of parts zones row))
+
+-- whether what is held reaches the part of the level that MISSLEVEL asks, in millionths: then the target is met
+abbrev pub is_met : ℕ → ℕ → ℕ → Bool
+is_met miss_level level held = nat_le (miss_level * level) (held * 1000000)
+
 -- a target is met where what is held reaches the part of the level that MISSLEVEL asks, in millionths
 abbrev pub IsMet : ℕ → ℕ → ℕ → Type 0
 IsMet miss_level level held = miss_level * level ≤ held * 1000000
@@ -42,7 +50,7 @@ is_touched parts unit row = nat_lt 0 (greatest_below (zone_count parts) (gain_of
 
 -- the target rows for which a unit gains in some zone, in rising order
 unfoldable pub touched_rows : Parts → ℕ → List ℕ
-touched_rows parts unit = places_below (row_count parts) (is_touched parts unit)
+touched_rows parts unit = places_below (target_count parts) (is_touched parts unit)
 
 -- these rows, each with the unit's amount of its feature
 unfoldable pub touches_of : Parts → ℕ → List (ℕ × ℕ)

@@ -5,7 +5,7 @@ use Rattle.mz_model.specs.declared.parts.Parts.{Parts}
 use Rattle.mz_model.specs.declared.parts.Target.{Target}
 use Rattle.mz_model.specs.Amounts.{total_of}
 use Rattle.mz_model.specs.Boundary.{IsLength}
-use Rattle.mz_model.specs.Parts.{unit_count, zone_count, feature_count, row_count, cost_at, rate_at, target_at}
+use Rattle.mz_model.specs.Parts.{unit_count, zone_count, feature_count, target_count, cost_at, rate_at, target_at}
 use Rattle.mz_num.specs.Order.{IsBefore}
 use Rattle.mz_num.specs.Places.{sum_below, greatest_below}
 use Rattle.mz_num.specs.ZoneSet.{IsZoneSet}
@@ -16,7 +16,7 @@ pub record IsSmall (parts : Parts) : Type 0 where
   pub units : unit_count parts ≤ 100000
   pub zones : zone_count parts ≤ 60
   pub features : feature_count parts ≤ 10000
-  pub rows : row_count parts ≤ 100000
+  pub rows : target_count parts ≤ 100000
   pub edges : length parts.edges ≤ 1000000
   pub amounts : length parts.amounts ≤ 5000000
 
@@ -60,9 +60,9 @@ pub record IsInShape (parts : Parts) : Type 0 where
   pub pairs : All (IsPair (unit_count parts)) parts.edges
   pub pairs_in_order : AllPairs IsBefore parts.edges
   pub outer : length parts.outer ≡ unit_count parts
-  pub enough_rows : feature_count parts ≤ row_count parts
+  pub enough_rows : feature_count parts ≤ target_count parts
   pub overall_rows : (row : ℕ) → row < feature_count parts → IsOverallRow row (target_at parts row)
-  pub zone_rows : (row : ℕ) → feature_count parts ≤ row → row < row_count parts → IsZoneRow (zone_count parts) (feature_count parts) (target_at parts row)
+  pub zone_rows : (row : ℕ) → feature_count parts ≤ row → row < target_count parts → IsZoneRow (zone_count parts) (feature_count parts) (target_at parts row)
   pub amounts : All (IsAmount (unit_count parts) (feature_count parts)) parts.amounts
   pub amounts_in_order : AllPairs IsBefore parts.amounts
   pub fractions : length parts.fractions ≡ zone_count parts * feature_count parts
@@ -74,9 +74,9 @@ pub record IsWithinLimits (parts : Parts) : Type 0 where
   pub pairs : All (λ edge. IsLength parts edge.2) parts.edges
   pub outer : All (IsLength parts) parts.outer
   pub amount : (feature : ℕ) → feature < feature_count parts → total_of parts.amounts feature ≤ 10 ^ 18
-  pub gain : (row : ℕ) → row < row_count parts → sum_below (unit_count parts) (λ unit. greatest_below (zone_count parts) (gain_of parts row unit)) ≤ 10 ^ 18
-  pub level : (row : ℕ) → row < row_count parts → (target_at parts row).level ≤ 10 ^ 18
-  pub weight : (row : ℕ) → row < row_count parts → (target_at parts row).weight ≤ 10 ^ 18
+  pub gain : (row : ℕ) → row < target_count parts → sum_below (unit_count parts) (λ unit. greatest_below (zone_count parts) (gain_of parts row unit)) ≤ 10 ^ 18
+  pub level : (row : ℕ) → row < target_count parts → (target_at parts row).level ≤ 10 ^ 18
+  pub weight : (row : ℕ) → row < target_count parts → (target_at parts row).weight ≤ 10 ^ 18
 
 -- parts that are a problem
 pub record IsValid (parts : Parts) : Type 0 where

@@ -6,7 +6,7 @@ ghost use Rattle.mz_model.specs.Amounts.{holders_of};
 ghost use Rattle.mz_model.specs.Boundary.{neighbours_of};
 ghost use Rattle.mz_model.specs.Built.{greatest_part_of, touching};
 ghost use Rattle.mz_model.specs.Groups.{filled};
-ghost use Rattle.mz_model.specs.Parts.{unit_count, zone_count, feature_count, row_count};
+ghost use Rattle.mz_model.specs.Parts.{unit_count, zone_count, feature_count, target_count};
 ghost use Rattle.mz_num.specs.Places.{list_below, places_below};
 ghost use Rattle.mz_model.specs.Targets.{touches_of};
 ghost use Rattle.mz_model.specs.Valid.{IsInShape, IsValid};

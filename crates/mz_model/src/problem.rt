@@ -4,7 +4,7 @@ ghost use Rattle.std.specs.Prelude.{◌==◌};
 ghost use Rattle.std.specs.List.{All, position_or_len};
 ghost use Rattle.mz_model.specs.Amounts.{holders_of};
 ghost use Rattle.mz_model.specs.Boundary.{IsLength, edge_term_of, neighbours_of};
-ghost use Rattle.mz_model.specs.Parts.{unit_count, zone_count, feature_count, row_count, cost_at, fraction_at, outer_at, rate_at, target_at};
+ghost use Rattle.mz_model.specs.Parts.{unit_count, zone_count, feature_count, target_count, cost_at, fraction_at, outer_at, rate_at, target_at};
 ghost use Rattle.mz_model.specs.Targets.{gain_from, gain_of, touched_rows, touches_of};
 ghost use Rattle.mz_model.specs.Scores.{penalty_term_of};
 ghost use Rattle.mz_num.specs.ZoneSet.{IsZoneSet};
@@ -37,11 +37,11 @@ impl Model for Problem {
 
     ghost Value = { Parts };
 
-    ghost use Rattle.mz_model.specs.Built.{IsBuilt};
+    ghost use Rattle.mz_model.specs.Built.{AreListsOf};
 
     ghost view = { λ a. a.parts };
 
-    ghost invariant = { λ a. IsBuilt a.parts a.zones a.free.items a.counts.items a.neighbours a.holders a.touches };
+    ghost invariant = { λ a. AreListsOf a.parts a.zones a.free.items a.counts.items a.neighbours a.holders a.touches };
 }
 
 impl Problem {
@@ -78,7 +78,7 @@ impl Problem {
     /// The number of target rows, at most 100,000.
     #[inline]
     pub fn targets(&self) -> u32
-        ensures count { result ≡ row_count self.now }
+        ensures count { result ≡ target_count self.now }
         ensures small { result ≤ 100000 }
     {
         self.parts.targets.len() as u32
@@ -247,7 +247,7 @@ impl Problem {
     /// A target row; its level and its weight are at most 10^18.
     #[inline]
     pub fn target(&self, t: u32) -> Target
-        requires { t < row_count self.now }
+        requires { t < target_count self.now }
         ensures row { result ≡ target_at self.now t }
         ensures feature { result.feature < feature_count self.now }
         ensures level { result.level ≤ 10 ^ 18 }
@@ -259,7 +259,7 @@ impl Problem {
     /// What a unit gains for a target row in a zone, in ten-thousandths, at most 10^18: the amount times
     /// the zone's contribution (Watts et al. 2009), rounded half up (this project's profile).
     pub fn gain(&self, t: u32, unit: u32, zone: u8) -> u64
-        requires row { t < row_count self.now }
+        requires row { t < target_count self.now }
         requires unit { unit < unit_count self.now }
         requires zone { zone < zone_count self.now }
         ensures gain { result ≡ gain_of self.now t unit zone }
@@ -276,7 +276,7 @@ impl Problem {
     pub fn touched(&self, unit: u32) -> u32
         requires { unit < unit_count self.now }
         ensures count { result ≡ length (touched_rows self.now unit) }
-        ensures small { result ≤ row_count self.now }
+        ensures small { result ≤ target_count self.now }
         ensures valid { IsValid self.now }
     {
         self.touches(unit).len() as u32
@@ -288,7 +288,7 @@ impl Problem {
         requires unit { unit < unit_count self.now }
         requires place { i < length (touched_rows self.now unit) }
         ensures row { result ≡ slice_index (touched_rows self.now unit) i }
-        ensures in_range { result < row_count self.now }
+        ensures in_range { result < target_count self.now }
     {
         self.touches(unit)[i as usize].0
     }
@@ -298,9 +298,9 @@ impl Problem {
     pub fn touches(&self, unit: u32) -> &[(u32, u64)]
         requires { unit < unit_count self.now }
         ensures touches { result.now ≡ touches_of self.now unit }
-        ensures rows { All (λ touch. touch.0 < row_count self.now) result.now }
+        ensures rows { All (λ touch. touch.0 < target_count self.now) result.now }
         ensures paired { length (touched_rows self.now unit) ≡ length result.now }
-        ensures small { length result.now ≤ row_count self.now }
+        ensures small { length result.now ≤ target_count self.now }
         ensures valid { IsValid self.now }
     {
         self.touches.at(unit as usize)
@@ -334,7 +334,7 @@ impl Problem {
     /// missing share of its weight (Watts et al. 2009), rounded half up (this project's profile).
     #[inline]
     pub fn penalty_term(&self, t: u32, held: u64) -> u64
-        requires { t < row_count self.now }
+        requires { t < target_count self.now }
         ensures term { result ≡ penalty_term_of self.now t held }
         ensures small { result ≤ 10 ^ 18 }
     {
@@ -386,7 +386,7 @@ impl Problem {
     /// that touches the row.
     #[inline]
     pub fn gain_from(&self, t: u32, amount: u64, zone: u8) -> u64
-        requires row { t < row_count self.now }
+        requires row { t < target_count self.now }
         requires zone { zone < zone_count self.now }
         requires fits { gain_from self.now t amount zone ≤ 10 ^ 18 }
         ensures { result ≡ gain_from self.now t amount zone }

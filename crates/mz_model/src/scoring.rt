@@ -1,7 +1,7 @@
 //! The score of a plan, summed over the whole plan.
 ghost use Rattle.std.specs.Prelude.{◌≡◌, ◌*◌, ◌<◌, ◌≤◌, ◌^◌};
 ghost use Rattle.std.specs.List.{sum_by};
-ghost use Rattle.mz_model.specs.Parts.{unit_count, row_count};
+ghost use Rattle.mz_model.specs.Parts.{unit_count, target_count};
 ghost use Rattle.mz_num.specs.Places.{sum_below};
 ghost use Rattle.mz_model.specs.Plans.{IsLegalPlan};
 ghost use Rattle.mz_model.specs.Scores.{cost_of_plan, outer_term, pair_term, penalty_of_plan, score_of_plan};
@@ -84,7 +84,7 @@ fn penalty(problem: &Problem, plan: &Plan) -> u128
 /// Watts et al. 2009.
 pub fn held(problem: &Problem, plan: &Plan, t: u32) -> u64
     requires legal { IsLegalPlan problem.now plan.now }
-    requires row { t < row_count problem.now }
+    requires row { t < target_count problem.now }
     ensures held { result ≡ held_of problem.now plan.now t }
     ensures small { result ≤ 10 ^ 18 }
 {
@@ -99,7 +99,7 @@ pub fn held(problem: &Problem, plan: &Plan, t: u32) -> u64
 /// How much is missing for a target row where so much is held, both in ten-thousandths: nothing where the
 /// level is reached. This is the shortfall of Watts et al. 2009.
 pub fn short(problem: &Problem, t: u32, held: u64) -> u64
-    requires { t < row_count problem.now }
+    requires { t < target_count problem.now }
     ensures { result ≡ shortfall_of problem.now t held }
 {
     problem.target(t).level.saturating_sub(held)

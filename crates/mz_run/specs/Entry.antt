@@ -1,7 +1,7 @@
 -- One entry of an annealing history.
-use Rattle.std.specs.Prelude.{ℕ, ℤ, pos, ◌-ℤ◌, if◌then◌else◌, List, slice_index, slice_set}
+use Rattle.std.specs.Prelude.{ℕ, if◌then◌else◌, List, slice_index}
 use Rattle.mz_model.specs.declared.parts.Parts.{Parts}
-use Rattle.mz_model.specs.Scores.{score_of_plan}
+use Rattle.mz_model.specs.Move.{change_of_score, moved_plan}
 use Rattle.mz_model.specs.Zones.{step_of}
 use Rattle.mz_draw.specs.declared.draw.Draw.{Draw}
 use Rattle.mz_cool.specs.Acceptance.{is_accepted}
@@ -12,19 +12,11 @@ use Rattle.mz_run.specs.declared.entry.Entry.{Entry}
 abbrev pub drawn_zone : Parts → List ℕ → Draw → ℕ
 drawn_zone parts plan draw = step_of parts draw.unit (slice_index plan draw.unit) draw.shift
 
--- the plan with the drawn unit moved
-abbrev pub moved_plan : Parts → List ℕ → Draw → List ℕ
-moved_plan parts plan draw = slice_set plan draw.unit (drawn_zone parts plan draw)
-
--- how much greater the score of the second plan is
-abbrev pub change_of_score : Parts → List ℕ → List ℕ → ℤ
-change_of_score parts before after = pos (score_of_plan parts after).total -ℤ pos (score_of_plan parts before).total
-
 -- the entry at a position that a seat's draw makes of a plan: its move, the change of the whole score by it,
 -- and whether the change is accepted at the position's temperature with the draw's word
 abbrev pub next_entry : Parts → Cooling → List ℕ → ℕ → ℕ → Draw → Entry
 next_entry parts cooling plan position seat draw =
-    let change = change_of_score parts plan (moved_plan parts plan draw) in
+    let change = change_of_score parts plan (moved_plan plan draw.unit (drawn_zone parts plan draw)) in
     record {
       seat = seat;
       number = draw.number;
@@ -38,4 +30,4 @@ next_entry parts cooling plan position seat draw =
 
 -- an accepted entry moves its unit, a refused one changes nothing
 abbrev pub plan_after : List ℕ → Entry → List ℕ
-plan_after plan entry = if entry.accepted then slice_set plan entry.unit entry.new else plan
+plan_after plan entry = if entry.accepted then moved_plan plan entry.unit entry.new else plan

@@ -4,14 +4,10 @@ use Rattle.std.specs.List.{concat}
 use Rattle.mz_num.specs.Decimal.{ten4_text}
 use Rattle.mz_model.specs.declared.parts.Parts.{Parts}
 use Rattle.mz_model.specs.declared.score.Score.{Score}
-use Rattle.mz_model.specs.Parts.{unit_count, row_count}
-use Rattle.mz_num.specs.Places.{sum_below, list_below}
+use Rattle.mz_model.specs.Parts.{unit_count}
+use Rattle.mz_num.specs.Places.{list_below}
 use Rattle.mz_model.specs.Scores.{score_of_plan}
-use Rattle.mz_model.specs.Targets.{held_of, shortfall_of}
-
--- the shortfall of a plan: that of all target rows
-unfoldable pub shortfall_of_plan : Parts → List ℕ → ℕ
-shortfall_of_plan parts plan = sum_below (row_count parts) (λ row. shortfall_of parts row (held_of parts plan row))
+use Rattle.mz_model.specs.Targets.{shortfall_of_plan}
 
 -- a unit's id and the id of its zone
 abbrev pub unit_line : Parts → List ℕ → ℕ → List ℕ

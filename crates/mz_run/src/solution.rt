@@ -5,8 +5,9 @@ ghost use Rattle.mz_model.specs.Parts.{unit_count};
 ghost use Rattle.mz_num.specs.Places.{list_below};
 ghost use Rattle.mz_model.specs.Plans.{IsLegalPlan};
 ghost use Rattle.mz_model.specs.Scores.{score_of_plan};
+ghost use Rattle.mz_model.specs.Targets.{shortfall_of_plan};
 ghost use Rattle.mz_model.specs.Valid.{IsValid};
-ghost use Rattle.mz_run.specs.Solution.{amount_line, score_lines, shortfall_of_plan, solution_text, unit_line};
+ghost use Rattle.mz_run.specs.Solution.{amount_line, score_lines, solution_text, unit_line};
 
 use mz_model::{Plan, Problem, Score, held, short};
 use mz_num::{NoMemory, write_ten4, push_bytes, push_number};
@@ -77,7 +78,7 @@ fn push_scores(
 }
 
 /// The shortfall of all target rows.
-#[tactic(auto, unfolding(crate::specs::Solution::shortfall_of_plan))]
+#[tactic(auto, unfolding(mz_model::specs::Targets::shortfall_of_plan))]
 fn shortfall(problem: &Problem, plan: &Plan) -> u128
     requires { IsLegalPlan problem.now plan.now }
     ensures { result ≡ shortfall_of_plan problem.now plan.now }
