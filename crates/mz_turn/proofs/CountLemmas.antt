@@ -41,7 +41,7 @@ module _ {T E S : Type 0} (entries : T → List E) (owner : E → ℕ) (setting_
         keeps,
         tt,
         view_step entries owner setting_of start setting seats s r (set s.words 1 found) id m.0 (counted_view m.0) me same (fits_counted r.word r.list m.0 ok f) (λ n k. subst (Keeps n) (sym ok.kept) k) (λ n k. subst (Keeps n) ok.kept k) (λ taken e. (taken, e)),
-        (refl, omega arith, teaches_seen r.word r.list m.0 ok f, λ taken e. let h = f.holds taken e in h.seen ∙ sym h.whole),
+        (refl, omega arith, teaches_seen r.word r.list m.0 ok f, λ taken e. let h = f.holds taken e in (h.seen ∙ sym h.whole, is ∙ ap length (sym h.whole))),
       )
 
 -- the chair after a count

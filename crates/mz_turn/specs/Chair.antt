@@ -54,10 +54,22 @@ pub record Takes {T E S : Type 0} (entries : T → List E) (owner : E → ℕ) (
   pub setting_is : chair.lock.setting ≡ Some (setting value)
   pub learns : Learns owner chair (entries value)
 
+-- the lock word is the number of another chair of the lock, and 1
+pub record FoundAnother {E S : Type 0} (chair : ChairState E S) (word : ℕ) : Type 0 where
+  pub other : ℕ
+  pub word_is : word ≡ other + 1
+  pub apart : other ≢ chair.number
+  pub within : other < chair.lock.seats
+
+-- what was found changes only with a failed try, and then the last of these found another chair's turn
+abbrev pub FailedTries : {E S : Type 0} → ChairState E S → ChairState E S → Type 0
+FailedTries old new = ((new.tries ≡ old.tries) × (new.found ≡ old.found)) ⊎ ((old.tries < new.tries) × FoundAnother old new.found)
+
 -- a take after some failed tries: the chair holds the turn
 pub record TookTurn {E S : Type 0} (old new : ChairState E S) (list : List E) : Type 0 where
   pub now : new ≡ record (with_turn old list) { tries = new.tries; found = new.found }
   pub tries : old.tries ≤ new.tries
+  pub failed : FailedTries old new
 
 -- a failed try: the turn is another chair's, and nothing else changed
 pub record Misses {E S : Type 0} (old new : ChairState E S) (other : ℕ) : Type 0 where

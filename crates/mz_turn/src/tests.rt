@@ -140,6 +140,45 @@ fn count_by_note<R: Threads + Wait + Sync>(rt: &R, alloc: Global) -> Result<Opti
     Ok(Some(count))
 }
 
+/// The count after a turn in which nothing is written.
+fn count_after_an_empty_turn<R: Wait>(rt: &R, alloc: Global) -> Result<Option<u64>, NoMemory> {
+    let (lock, chairs) = TurnLock::open(alloc, Log::new(alloc, 7), 2)?;
+    let Some((mut first, mut second)) = two_chairs(&lock, chairs) else {
+        return Ok(None);
+    };
+    let log = lock.take(rt, &mut first);
+    lock.put_back(&mut first, log);
+    Ok(Some(lock.count(&mut second)))
+}
+
+/// The number of lines that a chair takes once it has joined another's note.
+fn taken_after_a_note<R: Wait>(rt: &R, alloc: Global) -> Result<Option<u64>, NoMemory> {
+    let (lock, chairs) = TurnLock::open(alloc, Log::new(alloc, 7), 2)?;
+    let Some((first, mut second)) = two_chairs(&lock, chairs) else {
+        return Ok(None);
+    };
+    let note = write_note(rt, &lock, first);
+    lock.join(&mut second, note);
+    let log = lock.take(rt, &mut second);
+    let lines = log.length();
+    lock.put_back(&mut second, log);
+    Ok(Some(lines))
+}
+
+/// The count of a chair that has joined a later note and then an earlier one.
+fn count_after_two_notes<R: Wait>(rt: &R, alloc: Global) -> Result<Option<u64>, NoMemory> {
+    let (lock, chairs) = TurnLock::open(alloc, Log::new(alloc, 7), 2)?;
+    let Some((mut first, mut second)) = two_chairs(&lock, chairs) else {
+        return Ok(None);
+    };
+    write_line(rt, &lock, &mut first, 0);
+    let earlier = lock.split(&mut first);
+    let later = write_note(rt, &lock, first);
+    lock.join(&mut second, later);
+    lock.join(&mut second, earlier);
+    Ok(Some(lock.count(&mut second)))
+}
+
 /// The length of a value that is put under a lock and taken out at once, by a caller that knows only its bounds.
 fn length_through_a_lock<T: Story + Send + Drop>(alloc: Global, value: T) -> Result<u64, NoMemory> {
     let (lock, chairs) = TurnLock::open(alloc, value, 3)?;
@@ -163,6 +202,24 @@ fn a_try_is_told_of_the_holder(rt: HostRuntime) -> Result<(), Fail> {
 #[test]
 fn a_note_reaches_another_thread(rt: HostRuntime) -> Result<(), Fail> {
     assert_eq!(rt; count_by_note(&rt, rt.alloc())?, Some(1));
+    Ok(())
+}
+
+#[test]
+fn an_empty_turn_adds_nothing(rt: HostRuntime) -> Result<(), Fail> {
+    assert_eq!(rt; count_after_an_empty_turn(&rt, rt.alloc())?, Some(0));
+    Ok(())
+}
+
+#[test]
+fn a_take_after_a_note_finds_its_line(rt: HostRuntime) -> Result<(), Fail> {
+    assert_eq!(rt; taken_after_a_note(&rt, rt.alloc())?, Some(1));
+    Ok(())
+}
+
+#[test]
+fn a_count_after_two_notes_tells_of_both(rt: HostRuntime) -> Result<(), Fail> {
+    assert_eq!(rt; count_after_two_notes(&rt, rt.alloc())?, Some(2));
     Ok(())
 }
 

@@ -75,10 +75,12 @@ impl<T: Story + Send + Drop> TurnLock<T> {
         }
     }
 
-    /// One load of the count, which is at least the length of the list that the chair has seen.
+    /// One load of the count, which is at least the length of the list that the chair has seen. The
+    /// chair that has the turn finds the length of the list that it took.
     pub fn count(&self, chair: &mut Chair<T>) -> u64
         requires { chair.old.lock ≡ self.now }
         ensures length { length chair.old.seen ≤ result }
+        ensures held { (taken : List T.Entry) → chair.old.taken ≡ Some taken → result ≡ length taken }
         ensures learns { Learns T.owner chair.old chair.old.seen }
         ensures now { chair.new ≡ counted chair.old }
     {
