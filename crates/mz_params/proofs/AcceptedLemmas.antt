@@ -14,7 +14,7 @@ use Rattle.mz_params.specs.declared.key.Key.{Key}
 use Rattle.mz_params.specs.declared.key.Key.TheVariants.{AvailableZone, Blm, CoolFac, Prop, MissLevel, NumReps, NumItns, NumTemp, SaveRun, SaveBest, SaveSummary, SaveTargMet, SaveSumSoln, SaveTurns, RandSeed, RunMode}
 use Rattle.mz_params.specs.declared.fault.ParamFault.{ParamFault}
 use Rattle.mz_params.specs.declared.params.Params.{Params}
-use Rattle.mz_params.specs.Entry.{Entry}
+use Rattle.mz_params.specs.KeyLine.{KeyLine}
 use Rattle.mz_params.specs.KeyKind.{least_of, greatest_of}
 use Rattle.mz_params.specs.Lines.{value_of}
 use Rattle.mz_params.specs.Value.{whole_value, millionths_value, seed_value, seed_from, mode_value, mode_from, first_word}
@@ -27,7 +27,7 @@ read_range : (least most default : ℕ) (given : Option (List ℕ)) → least �
 read_range least most default None low high = (low, high)
 read_range least most default (Some text) low high = whole_value-range least most default text low high
 
-whole_at-range : (entries : List Entry) (key : Key) (default : ℕ) → least_of key ≤ default → default ≤ greatest_of key → (least_of key ≤ whole_at entries key default) × (whole_at entries key default ≤ greatest_of key)
+whole_at-range : (entries : List KeyLine) (key : Key) (default : ℕ) → least_of key ≤ default → default ≤ greatest_of key → (least_of key ≤ whole_at entries key default) × (whole_at entries key default ≤ greatest_of key)
 unfolding whole_at
 whole_at-range entries key default low high = read_range (least_of key) (greatest_of key) default (value_of key entries) low high
 
@@ -35,7 +35,7 @@ read_most : (least most default : ℕ) (given : Option (List ℕ)) → least ≤
 read_most least most default None low high = high
 read_most least most default (Some text) low high = (millionths_value-range least most default text low high).1
 
-millionths_at-range : (entries : List Entry) (key : Key) (default : ℕ) → least_of key ≤ default → default ≤ greatest_of key → millionths_at entries key default ≤ greatest_of key
+millionths_at-range : (entries : List KeyLine) (key : Key) (default : ℕ) → least_of key ≤ default → default ≤ greatest_of key → millionths_at entries key default ≤ greatest_of key
 unfolding millionths_at
 millionths_at-range entries key default low high = read_most (least_of key) (greatest_of key) default (value_of key entries) low high
 
@@ -74,7 +74,7 @@ seed_given : (given : Option (List ℕ)) → IfSome (read_or None seed_value giv
 seed_given None = tt
 seed_given (Some text) = small_seed_value text
 
-seed_of-range : (entries : List Entry) → IfSome (seed_of entries) (λ s. s ≤ 2147483647)
+seed_of-range : (entries : List KeyLine) → IfSome (seed_of entries) (λ s. s ≤ 2147483647)
 unfolding seed_of
 seed_of-range entries = seed_given (value_of RandSeed entries)
 
@@ -101,7 +101,7 @@ mode_given : (given : Option (List ℕ)) → IsMode (read_or 1 mode_value given)
 mode_given None = inl refl
 mode_given (Some text) = mode_text text
 
-mode_of-one : (entries : List Entry) → IsMode (mode_of entries)
+mode_of-one : (entries : List KeyLine) → IsMode (mode_of entries)
 unfolding mode_of
 mode_of-one entries = mode_given (value_of RunMode entries)
 
@@ -136,7 +136,7 @@ turned save proposals e given = grind (arith, nat_tests)
 full : (units : List ℕ) → eqb (length units) 0 ≡ false → units ≢ []
 full units e none = eqb-false (length units) 0 e (ap length none)
 
-accepted_params : (entries : List Entry) → missing_fault (params_of entries) ≡ None → limit_fault (params_of entries) ≡ None → IsAccepted (params_of entries)
+accepted_params : (entries : List KeyLine) → missing_fault (params_of entries) ≡ None → limit_fault (params_of entries) ≡ None → IsAccepted (params_of entries)
 unfolding params_of
 accepted_params entries missing limit =
     let p = params_of entries in
@@ -168,7 +168,7 @@ accepted_params entries missing limit =
       turns = turned p.save_turns (p.reps * p.iterations) limits.2;
     }
 
-pub accepted : (entries : List Entry) (params : Params) → params ≡ params_of entries → option_or (missing_fault params) (limit_fault params) ≡ None → IsAccepted params
+pub accepted : (entries : List KeyLine) (params : Params) → params ≡ params_of entries → option_or (missing_fault params) (limit_fault params) ≡ None → IsAccepted params
 accepted entries params same none =
     let parts = option_or-none (missing_fault params) (limit_fault params) none in
     subst IsAccepted (sym same) (accepted_params entries (ap missing_fault (sym same) ∙ parts.0) (ap limit_fault (sym same) ∙ parts.1))

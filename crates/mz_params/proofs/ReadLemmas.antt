@@ -4,7 +4,7 @@ use Rattle.std.specs.Option.{option_or}
 use Rattle.mz_params.specs.declared.fault.ParamFault.{ParamFault}
 use Rattle.mz_params.specs.declared.fault.ParamFault.TheVariants.{Repeated, BadValue, OutOfRange, LeftOut, Missing, NoMemory}
 use Rattle.mz_params.specs.declared.params.Params.{Params}
-use Rattle.mz_params.specs.Lines.{entries_of, first_fault}
+use Rattle.mz_params.specs.Lines.{lines_of, first_fault}
 use Rattle.mz_params.specs.Given.{params_of}
 use Rattle.mz_params.specs.ParamFile.{Answers, IsFirstFault, missing_fault, limit_fault, params_from, unless}
 
@@ -18,19 +18,19 @@ Answers-fault (LeftOut key) made e = e
 Answers-fault (Missing key) made e = e
 
 -- the definition where the lines have a fault
-from_line_fault : (bytes : List ℕ) (fault : ParamFault) → first_fault [] (entries_of bytes) ≡ Some fault → params_from bytes ≡ Err fault
+from_line_fault : (bytes : List ℕ) (fault : ParamFault) → first_fault [] (lines_of bytes) ≡ Some fault → params_from bytes ≡ Err fault
 unfolding params_from
-from_line_fault bytes fault e = ap (λ first. unless (option_or first (option_or (missing_fault (params_of (entries_of bytes))) (limit_fault (params_of (entries_of bytes))))) (params_of (entries_of bytes))) e
+from_line_fault bytes fault e = ap (λ first. unless (option_or first (option_or (missing_fault (params_of (lines_of bytes))) (limit_fault (params_of (lines_of bytes))))) (params_of (lines_of bytes))) e
 
 -- and where they have none
-from_good_lines : (bytes : List ℕ) (params : Params) → first_fault [] (entries_of bytes) ≡ None → params ≡ params_of (entries_of bytes) → params_from bytes ≡ unless (option_or (missing_fault params) (limit_fault params)) params
+from_good_lines : (bytes : List ℕ) (params : Params) → first_fault [] (lines_of bytes) ≡ None → params ≡ params_of (lines_of bytes) → params_from bytes ≡ unless (option_or (missing_fault params) (limit_fault params)) params
 unfolding params_from
 from_good_lines bytes params e same =
-    ap (λ first. unless (option_or first (option_or (missing_fault (params_of (entries_of bytes))) (limit_fault (params_of (entries_of bytes))))) (params_of (entries_of bytes))) e
+    ap (λ first. unless (option_or first (option_or (missing_fault (params_of (lines_of bytes))) (limit_fault (params_of (lines_of bytes))))) (params_of (lines_of bytes))) e
     ∙ ap (λ p. unless (option_or (missing_fault p) (limit_fault p)) p) (sym same)
 
 -- the answer at each of the three ends
-pub answers_line_fault : (bytes : List ℕ) (fault : ParamFault) → IsFirstFault fault (first_fault [] (entries_of bytes)) → Answers (Err fault) (params_from bytes)
+pub answers_line_fault : (bytes : List ℕ) (fault : ParamFault) → IsFirstFault fault (first_fault [] (lines_of bytes)) → Answers (Err fault) (params_from bytes)
 answers_line_fault bytes NoMemory first = tt
 answers_line_fault bytes (Repeated key) first = from_line_fault bytes (Repeated key) first
 answers_line_fault bytes (BadValue key) first = from_line_fault bytes (BadValue key) first
@@ -38,10 +38,10 @@ answers_line_fault bytes (OutOfRange key) first = from_line_fault bytes (OutOfRa
 answers_line_fault bytes (LeftOut key) first = from_line_fault bytes (LeftOut key) first
 answers_line_fault bytes (Missing key) first = from_line_fault bytes (Missing key) first
 
-pub answers_late_fault : (bytes : List ℕ) (params : Params) (fault : ParamFault) → first_fault [] (entries_of bytes) ≡ None → params ≡ params_of (entries_of bytes) → option_or (missing_fault params) (limit_fault params) ≡ Some fault → Answers (Err fault) (params_from bytes)
+pub answers_late_fault : (bytes : List ℕ) (params : Params) (fault : ParamFault) → first_fault [] (lines_of bytes) ≡ None → params ≡ params_of (lines_of bytes) → option_or (missing_fault params) (limit_fault params) ≡ Some fault → Answers (Err fault) (params_from bytes)
 answers_late_fault bytes params fault good same e = Answers-fault fault (params_from bytes) (from_good_lines bytes params good same ∙ ap (λ first. unless first params) e)
 
-pub answers_params : (bytes : List ℕ) (params : Params) → first_fault [] (entries_of bytes) ≡ None → params ≡ params_of (entries_of bytes) → option_or (missing_fault params) (limit_fault params) ≡ None → params_from bytes ≡ Ok params
+pub answers_params : (bytes : List ℕ) (params : Params) → first_fault [] (lines_of bytes) ≡ None → params ≡ params_of (lines_of bytes) → option_or (missing_fault params) (limit_fault params) ≡ None → params_from bytes ≡ Ok params
 answers_params bytes params good same e = from_good_lines bytes params good same ∙ ap (λ first. unless first params) e
 
 -- the later faults, as the code finds them

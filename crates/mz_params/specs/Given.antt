@@ -1,12 +1,13 @@
--- The parameters that the entries of a file give, with this project's defaults.
+-- The parameters that the lines of a file give, with this project's defaults.
 use Rattle.std.specs.Prelude.{ℕ, List, [], ◌∷◌, Option, Some, None, Result, Ok, Err, codes}
 use Rattle.std.specs.Option.{unwrap_or}
 use Rattle.std.specs.Result.{result_unwrap_or}
+use Rattle.mz_num.specs.Limits.{million}
 use Rattle.mz_params.specs.declared.key.Key.{Key}
 use Rattle.mz_params.specs.declared.key.Key.TheVariants.{InputDir, OutputDir, ScenName, PuName, FeatName, PuVsFeatName, BoundName, ZonesName, CostsName, ZoneCostName, ZoneBoundCostName, ZoneContribName, ZoneTargetName, PuLockName, PuZoneName, AvailableZone, Blm, Prop, MissLevel, RandSeed, NumReps, NumItns, StartTemp, CoolFac, NumTemp, RunMode, SaveRun, SaveBest, SaveSummary, SaveTargMet, SaveSumSoln, SaveTurns}
 use Rattle.mz_params.specs.declared.params.Params.{Params}
 use Rattle.mz_params.specs.declared.value.Refusal.{Refusal}
-use Rattle.mz_params.specs.Entry.{Entry}
+use Rattle.mz_params.specs.KeyLine.{KeyLine}
 use Rattle.mz_params.specs.KeyKind.{least_of, greatest_of}
 use Rattle.mz_params.specs.Lines.{value_of}
 use Rattle.mz_params.specs.Value.{text_value, whole_value, millionths_value, seed_value, start_value, mode_value}
@@ -28,58 +29,58 @@ read_or default read None = default
 read_or default read (Some value) = result_unwrap_or (read value) default
 
 -- the text of a key, the whole number and the number of millionths
-unfoldable pub text_of : List Entry → Key → Option (List ℕ)
-text_of entries key = text_in (value_of key entries)
+unfoldable pub text_of : List KeyLine → Key → Option (List ℕ)
+text_of lines key = text_in (value_of key lines)
 
-unfoldable pub whole_at : List Entry → Key → ℕ → ℕ
-whole_at entries key default = read_or default (whole_value (least_of key) (greatest_of key)) (value_of key entries)
+unfoldable pub whole_at : List KeyLine → Key → ℕ → ℕ
+whole_at lines key default = read_or default (whole_value (least_of key) (greatest_of key)) (value_of key lines)
 
-unfoldable pub millionths_at : List Entry → Key → ℕ → ℕ
-millionths_at entries key default = read_or default (millionths_value (least_of key) (greatest_of key)) (value_of key entries)
+unfoldable pub millionths_at : List KeyLine → Key → ℕ → ℕ
+millionths_at lines key default = read_or default (millionths_value (least_of key) (greatest_of key)) (value_of key lines)
 
 -- the random seed, the temperature to start at and the run mode
-unfoldable pub seed_of : List Entry → Option ℕ
-seed_of entries = read_or None seed_value (value_of RandSeed entries)
+unfoldable pub seed_of : List KeyLine → Option ℕ
+seed_of lines = read_or None seed_value (value_of RandSeed lines)
 
-unfoldable pub start_of : List Entry → Option ℕ
-start_of entries = read_or None start_value (value_of StartTemp entries)
+unfoldable pub start_of : List KeyLine → Option ℕ
+start_of lines = read_or None start_value (value_of StartTemp lines)
 
-unfoldable pub mode_of : List Entry → ℕ
-mode_of entries = read_or 1 mode_value (value_of RunMode entries)
+unfoldable pub mode_of : List KeyLine → ℕ
+mode_of lines = read_or 1 mode_value (value_of RunMode lines)
 
--- the parameters that entries without a fault give
-unfoldable pub params_of : List Entry → Params
-params_of entries = record {
-  input_dir = unwrap_or (text_of entries InputDir) [];
-  output_dir = unwrap_or (text_of entries OutputDir) [];
-  scen = unwrap_or (text_of entries ScenName) (codes "output");
-  units = unwrap_or (text_of entries PuName) [];
-  features = text_of entries FeatName;
-  amounts = text_of entries PuVsFeatName;
-  bounds = text_of entries BoundName;
-  zones = text_of entries ZonesName;
-  costs = text_of entries CostsName;
-  zone_costs = text_of entries ZoneCostName;
-  zone_bounds = text_of entries ZoneBoundCostName;
-  contribs = text_of entries ZoneContribName;
-  zone_targets = text_of entries ZoneTargetName;
-  locks = text_of entries PuLockName;
-  zone_sets = text_of entries PuZoneName;
-  available = whole_at entries AvailableZone 1;
-  blm = millionths_at entries Blm 0;
-  prop = millionths_at entries Prop 0;
-  miss_level = millionths_at entries MissLevel 1000000;
-  seed = seed_of entries;
-  reps = whole_at entries NumReps 1;
-  iterations = whole_at entries NumItns 0;
-  start = start_of entries;
-  cool = millionths_at entries CoolFac 1000000;
-  levels = whole_at entries NumTemp 1;
-  mode = mode_of entries;
-  save_run = whole_at entries SaveRun 0;
-  save_best = whole_at entries SaveBest 0;
-  save_summary = whole_at entries SaveSummary 0;
-  save_missing = whole_at entries SaveTargMet 0;
-  save_summed = whole_at entries SaveSumSoln 0;
-  save_turns = whole_at entries SaveTurns 0;
+-- the parameters that lines without a fault give
+unfoldable pub params_of : List KeyLine → Params
+params_of lines = record {
+  input_dir = unwrap_or (text_of lines InputDir) [];
+  output_dir = unwrap_or (text_of lines OutputDir) [];
+  scen = unwrap_or (text_of lines ScenName) (codes "output");
+  units = unwrap_or (text_of lines PuName) [];
+  features = text_of lines FeatName;
+  amounts = text_of lines PuVsFeatName;
+  bounds = text_of lines BoundName;
+  zones = text_of lines ZonesName;
+  costs = text_of lines CostsName;
+  zone_costs = text_of lines ZoneCostName;
+  zone_bounds = text_of lines ZoneBoundCostName;
+  contribs = text_of lines ZoneContribName;
+  zone_targets = text_of lines ZoneTargetName;
+  locks = text_of lines PuLockName;
+  zone_sets = text_of lines PuZoneName;
+  available = whole_at lines AvailableZone 1;
+  blm = millionths_at lines Blm 0;
+  prop = millionths_at lines Prop 0;
+  miss_level = millionths_at lines MissLevel million;
+  seed = seed_of lines;
+  reps = whole_at lines NumReps 1;
+  iterations = whole_at lines NumItns 0;
+  start = start_of lines;
+  cool = millionths_at lines CoolFac million;
+  levels = whole_at lines NumTemp 1;
+  mode = mode_of lines;
+  save_run = whole_at lines SaveRun 0;
+  save_best = whole_at lines SaveBest 0;
+  save_summary = whole_at lines SaveSummary 0;
+  save_missing = whole_at lines SaveTargMet 0;
+  save_summed = whole_at lines SaveSumSoln 0;
+  save_turns = whole_at lines SaveTurns 0;
 }

@@ -1,5 +1,6 @@
 -- What each key of a parameter file takes.
 use Rattle.std.specs.Prelude.{ℕ}
+use Rattle.mz_num.specs.Limits.{greatest_id, greatest_quantity, million, most_levels, most_proposals, most_runs}
 use Rattle.mz_params.specs.declared.key.Key.{Key}
 use Rattle.mz_params.specs.declared.key.Key.TheVariants.{InputDir, OutputDir, ScenName, PuName, FeatName, PuVsFeatName, BoundName, ZonesName, CostsName, ZoneCostName, ZoneBoundCostName, ZoneContribName, ZoneTargetName, PuLockName, PuZoneName, AvailableZone, Blm, Prop, MissLevel, RandSeed, NumReps, NumItns, StartTemp, CoolFac, NumTemp, RunMode, SaveRun, SaveBest, SaveSummary, SaveTargMet, SaveSumSoln, SaveTurns, ClumpType, CostThresh, Asymmetric}
 use Rattle.mz_params.specs.declared.kind.Kind.{Kind}
@@ -51,14 +52,14 @@ least_of _ = 0
 
 -- the greatest number that a key takes: a whole number, or one of millionths
 abbrev pub greatest_of : Key → ℕ
-greatest_of AvailableZone = 2147483647
-greatest_of Blm = 1000000000000000000
-greatest_of Prop = 1000000
-greatest_of MissLevel = 1000000
-greatest_of NumReps = 1000
-greatest_of NumItns = 10000000
-greatest_of CoolFac = 1000000000000000000
-greatest_of NumTemp = 1000000
+greatest_of AvailableZone = greatest_id
+greatest_of Blm = greatest_quantity
+greatest_of Prop = million
+greatest_of MissLevel = million
+greatest_of NumReps = most_runs
+greatest_of NumItns = most_proposals
+greatest_of CoolFac = greatest_quantity
+greatest_of NumTemp = most_levels
 greatest_of SaveRun = 3
 greatest_of SaveBest = 3
 greatest_of SaveSummary = 3

@@ -1,7 +1,7 @@
-pub mod Entry
 pub mod Folder
 pub mod Given
 pub mod KeyKind
+pub mod KeyLine
 pub mod KeyName
 pub mod Lines
 pub mod ParamFile

@@ -9,7 +9,7 @@ use Rattle.mz_params.specs.declared.fault.ParamFault.{ParamFault}
 use Rattle.mz_params.specs.declared.fault.ParamFault.TheVariants.{Repeated, BadValue, OutOfRange, LeftOut}
 use Rattle.mz_params.specs.declared.value.Refusal.{Refusal}
 use Rattle.mz_params.specs.declared.value.Refusal.TheVariants as refusal
-use Rattle.mz_params.specs.Entry.{Entry}
+use Rattle.mz_params.specs.KeyLine.{KeyLine}
 use Rattle.mz_params.specs.KeyName.{key_of, same_key}
 use Rattle.mz_params.specs.Value.{first_word, value_refusal}
 
@@ -21,29 +21,29 @@ abbrev pub without_mark : List ℕ → List ℕ
 without_mark bytes = (if starts_with nat_eq bytes (239 ∷ 187 ∷ 191 ∷ []) then drop 3 bytes else bytes)
 
 -- a key with the rest of its line
-abbrev pub entry_with : List ℕ → Option Key → Option Entry
-entry_with value None = None
-entry_with value (Some key) = Some (record { key = key; value = value })
+abbrev pub line_with : List ℕ → Option Key → Option KeyLine
+line_with value None = None
+line_with value (Some key) = Some (record { key = key; value = value })
 
--- the entry of a line without blanks at its ends, if its first word is a key
-abbrev pub entry_in : List ℕ → Option Entry
-entry_in text = entry_with (trimmed (drop (length (first_word text)) text)) (key_of (first_word text))
+-- what stands on a line without blanks at its ends, if its first word is a key
+abbrev pub line_in : List ℕ → Option KeyLine
+line_in text = line_with (trimmed (drop (length (first_word text)) text)) (key_of (first_word text))
 
--- the entry of a line
-unfoldable pub entry_of : List ℕ → Option Entry
-entry_of line = entry_in (trimmed (strip_carriage_return line))
+-- what stands on a line that is taken
+unfoldable pub line_of : List ℕ → Option KeyLine
+line_of line = line_in (trimmed (strip_carriage_return line))
 
--- the entries of a file: its lines end at line feeds
-unfoldable pub entries_of : List ℕ → List Entry
-entries_of bytes = filter_map entry_of (slice_split is_line_feed (without_mark bytes))
+-- the lines of a file that are taken; each ends at a line feed
+unfoldable pub lines_of : List ℕ → List KeyLine
+lines_of bytes = filter_map line_of (slice_split is_line_feed (without_mark bytes))
 
--- an entry of the key stands among these
-abbrev pub has_key : Key → List Entry → Bool
-has_key key entries = list_any (λ e. same_key e.key key) entries
+-- a line of the key stands among these
+abbrev pub has_key : Key → List KeyLine → Bool
+has_key key lines = list_any (λ e. same_key e.key key) lines
 
--- the value of a key among these entries
-unfoldable pub value_of : Key → List Entry → Option (List ℕ)
-value_of key entries = option_map (λ e. e.value) (find (λ e. same_key e.key key) entries)
+-- the value of a key among these lines
+unfoldable pub value_of : Key → List KeyLine → Option (List ℕ)
+value_of key lines = option_map (λ e. e.value) (find (λ e. same_key e.key key) lines)
 
 -- why a key is refused
 abbrev pub fault_about : Key → Option Refusal → Option ParamFault
@@ -52,11 +52,11 @@ fault_about key (Some refusal.BadValue) = Some (BadValue key)
 fault_about key (Some refusal.OutOfRange) = Some (OutOfRange key)
 fault_about key (Some refusal.LeftOut) = Some (LeftOut key)
 
--- the fault of an entry behind earlier ones
-unfoldable pub entry_fault : List Entry → Entry → Option ParamFault
-entry_fault earlier e = (if has_key e.key earlier then Some (Repeated e.key) else fault_about e.key (value_refusal e.key e.value))
+-- the fault of a line behind earlier ones
+unfoldable pub line_fault : List KeyLine → KeyLine → Option ParamFault
+line_fault earlier e = (if has_key e.key earlier then Some (Repeated e.key) else fault_about e.key (value_refusal e.key e.value))
 
--- the first fault of entries behind earlier ones
-abbrev pub first_fault : List Entry → List Entry → Option ParamFault
+-- the first fault of lines behind earlier ones
+abbrev pub first_fault : List KeyLine → List KeyLine → Option ParamFault
 first_fault earlier [] = None
-first_fault earlier (e ∷ later) = option_or (entry_fault earlier e) (first_fault (earlier ++ e ∷ []) later)
+first_fault earlier (e ∷ later) = option_or (line_fault earlier e) (first_fault (earlier ++ e ∷ []) later)

@@ -5,9 +5,6 @@ ghost use Rattle.mz_params.specs.Folder.{behind_folder, file_in, without_end_mar
 use mz_num::{NoMemory, Text};
 use std::alloc::Global;
 
-#[cfg(test)]
-mod tests;
-
 /// The file of that name in a folder: a `/` stands between them. One `/` or `\` at the folder's end
 /// doesn't count, and an empty folder adds nothing. This is the project's profile.
 pub fn file_in_folder(alloc: Global, folder: &str, name: &str) -> Result<Text, NoMemory>

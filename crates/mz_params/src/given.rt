@@ -1,20 +1,22 @@
 //! The parameters that the lines of a file give.
-ghost use Rattle.std.specs.Prelude.{◌≡◌, ◌≤◌, ◌^◌, IfOk};
+ghost use Rattle.std.specs.Prelude.{◌≡◌, ◌≤◌, IfOk};
 ghost use Rattle.std.specs.Option.{unwrap_or};
+ghost use Rattle.mz_num.specs.Limits.{greatest_quantity};
 ghost use Rattle.mz_params.specs.Given.{text_of, whole_at, millionths_at, seed_of, start_of, mode_of, params_of};
 ghost use Rattle.mz_params.specs.KeyKind.{least_of, greatest_of};
 
 use crate::file::value;
 use crate::key::Key;
-use crate::line::Line;
+use crate::key_line::KeyLine;
 use crate::params::Params;
 use crate::value::{read_millionths, read_mode, read_number, read_seed, read_start, read_text};
+use mz_num::limits::MILLION;
 use mz_num::{Mic6, NoMemory, Ten4, Text};
 use std::alloc::Global;
 
 /// The parameters that lines without a fault give, with the defaults of keys that aren't given.
 #[tactic(auto, unfolding(crate::specs::Given::params_of))]
-pub(crate) fn given_params(alloc: Global, lines: &[Line]) -> Result<Params, NoMemory>
+pub(crate) fn given_params(alloc: Global, lines: &[KeyLine]) -> Result<Params, NoMemory>
     ensures { IfOk result (λ params. params ≡ params_of lines.now) }
 {
     Ok(Params {
@@ -36,12 +38,12 @@ pub(crate) fn given_params(alloc: Global, lines: &[Line]) -> Result<Params, NoMe
         available: whole(lines, Key::AvailableZone, 1) as u32,
         blm: millionths(lines, Key::Blm, 0),
         prop: millionths(lines, Key::Prop, 0),
-        miss_level: millionths(lines, Key::MissLevel, 1_000_000),
+        miss_level: millionths(lines, Key::MissLevel, MILLION),
         seed: seed(lines),
         reps: whole(lines, Key::NumReps, 1) as u32,
         iterations: whole(lines, Key::NumItns, 0) as u32,
         start: start(lines),
-        cool: millionths(lines, Key::CoolFac, 1_000_000),
+        cool: millionths(lines, Key::CoolFac, MILLION),
         levels: whole(lines, Key::NumTemp, 1) as u32,
         mode: mode(lines),
         save_run: whole(lines, Key::SaveRun, 0) as u8,
@@ -55,7 +57,7 @@ pub(crate) fn given_params(alloc: Global, lines: &[Line]) -> Result<Params, NoMe
 
 /// The text of a key; none where it isn't given or empty.
 #[tactic(auto, unfolding(crate::specs::Given::text_of))]
-fn text(alloc: Global, lines: &[Line], key: Key) -> Result<Option<Text>, NoMemory>
+fn text(alloc: Global, lines: &[KeyLine], key: Key) -> Result<Option<Text>, NoMemory>
     ensures { IfOk result (λ text. text ≡ text_of lines.now key) }
 {
     let Some(value) = value(lines, key) else {
@@ -68,7 +70,7 @@ fn text(alloc: Global, lines: &[Line], key: Key) -> Result<Option<Text>, NoMemor
 }
 
 /// The text of a key, or its default.
-fn text_or(alloc: Global, lines: &[Line], key: Key, default: &str) -> Result<Text, NoMemory>
+fn text_or(alloc: Global, lines: &[KeyLine], key: Key, default: &str) -> Result<Text, NoMemory>
     ensures { IfOk result (λ text. text ≡ unwrap_or (text_of lines.now key) default.now) }
 {
     match text(alloc, lines, key)? {
@@ -79,7 +81,7 @@ fn text_or(alloc: Global, lines: &[Line], key: Key, default: &str) -> Result<Tex
 
 /// The whole number of a key, or its default.
 #[tactic(auto, unfolding(crate::specs::Given::whole_at))]
-fn whole(lines: &[Line], key: Key, default: u64) -> u64
+fn whole(lines: &[KeyLine], key: Key, default: u64) -> u64
     requires least { least_of key ≤ default }
     requires greatest { default ≤ greatest_of key }
     ensures value { result ≡ whole_at lines.now key default }
@@ -94,10 +96,10 @@ fn whole(lines: &[Line], key: Key, default: u64) -> u64
 
 /// The number of millionths of a key, or its default.
 #[tactic(auto, unfolding(crate::specs::Given::millionths_at))]
-fn millionths(lines: &[Line], key: Key, default: u64) -> Mic6
+fn millionths(lines: &[KeyLine], key: Key, default: u64) -> Mic6
     requires least { least_of key ≤ default }
     requires greatest { default ≤ greatest_of key }
-    requires scale { greatest_of key ≤ 10 ^ 18 }
+    requires scale { greatest_of key ≤ greatest_quantity }
     ensures value { result ≡ millionths_at lines.now key default }
     ensures greatest { result ≤ greatest_of key }
 {
@@ -109,7 +111,7 @@ fn millionths(lines: &[Line], key: Key, default: u64) -> Mic6
 
 /// The random seed; none where it isn't given or below 0.
 #[tactic(auto, unfolding(crate::specs::Given::seed_of))]
-fn seed(lines: &[Line]) -> Option<u32>
+fn seed(lines: &[KeyLine]) -> Option<u32>
     ensures { result ≡ seed_of lines.now }
 {
     match value(lines, Key::RandSeed) {
@@ -120,7 +122,7 @@ fn seed(lines: &[Line]) -> Option<u32>
 
 /// The temperature to start at; none where it isn't given or below 0.
 #[tactic(auto, unfolding(crate::specs::Given::start_of))]
-fn start(lines: &[Line]) -> Option<Ten4>
+fn start(lines: &[KeyLine]) -> Option<Ten4>
     ensures { result ≡ start_of lines.now }
 {
     match value(lines, Key::StartTemp) {
@@ -131,7 +133,7 @@ fn start(lines: &[Line]) -> Option<Ten4>
 
 /// The run mode, or annealing and then improvement.
 #[tactic(auto, unfolding(crate::specs::Given::mode_of))]
-fn mode(lines: &[Line]) -> u8
+fn mode(lines: &[KeyLine]) -> u8
     ensures { result ≡ mode_of lines.now }
 {
     match value(lines, Key::RunMode) {

@@ -3,6 +3,9 @@ ghost use Rattle.std.specs.Prelude.{◌≡◌};
 ghost use Rattle.mz_params.specs.KeyKind.{kind_of, least_of, greatest_of};
 
 use crate::key::Key;
+use mz_num::limits::{
+    GREATEST_ID, GREATEST_QUANTITY, MILLION, MOST_LEVELS, MOST_PROPOSALS, MOST_RUNS,
+};
 
 /// The kind of value that a key takes.
 #[derive(Clone, Copy)]
@@ -77,11 +80,12 @@ impl Key {
         ensures { result ≡ greatest_of self }
     {
         match self {
-            Key::AvailableZone => 2_147_483_647,
-            Key::Blm | Key::CoolFac => 1_000_000_000_000_000_000,
-            Key::Prop | Key::MissLevel | Key::NumTemp => 1_000_000,
-            Key::NumReps => 1000,
-            Key::NumItns => 10_000_000,
+            Key::AvailableZone => GREATEST_ID,
+            Key::Blm | Key::CoolFac => GREATEST_QUANTITY,
+            Key::Prop | Key::MissLevel => MILLION,
+            Key::NumTemp => MOST_LEVELS as u64,
+            Key::NumReps => MOST_RUNS as u64,
+            Key::NumItns => MOST_PROPOSALS as u64,
             Key::SaveRun
             | Key::SaveBest
             | Key::SaveSummary

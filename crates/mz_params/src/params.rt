@@ -3,11 +3,14 @@ use crate::fault::ParamFault;
 use crate::file::read_lines;
 use crate::given::given_params;
 use crate::key::Key;
+use mz_num::limits::MILLION;
 use mz_num::{Mic6, Ten4, Text};
 use std::alloc::Global;
 
-#[cfg(test)]
-mod tests;
+/// The proposals of all runs together.
+const MOST_PROPOSALS_OF_ALL: u64 = 1_000_000_000;
+/// The turns that are kept, of all runs together.
+const MOST_KEPT_TURNS: u64 = 200_000_000;
 
 /// The parameters of a run: the accepted keys of a parameter file, with this project's defaults
 /// for keys that aren't given. The keys are those of the manual of Marxan with Zones 1.0.1.
@@ -125,13 +128,13 @@ impl Params {
         ensures { result ≡ limit_fault self.now }
     {
         let proposals = u64::from(self.reps) * u64::from(self.iterations);
-        if proposals > 1_000_000_000 {
+        if proposals > MOST_PROPOSALS_OF_ALL {
             return Some(ParamFault::OutOfRange(Key::NumItns));
         }
-        if self.start.is_some() && self.cool.0 > 1_000_000 {
+        if self.start.is_some() && self.cool.0 > MILLION {
             return Some(ParamFault::OutOfRange(Key::CoolFac));
         }
-        if self.save_turns != 0 && proposals > 200_000_000 {
+        if self.save_turns != 0 && proposals > MOST_KEPT_TURNS {
             return Some(ParamFault::OutOfRange(Key::SaveTurns));
         }
         None

@@ -5,11 +5,12 @@ use Rattle.std.specs.Option.{IfSome, IsSomeAnd}
 use Rattle.std.specs.FinMap.{get}
 use Rattle.std.proofs.lemmas.Bool.{le-ltb, lt-ltb}
 use Rattle.std.proofs.lemmas.Option.{IfSome_then}
-use Rattle.mz_shelf.specs.State.{State, Contents, Files, Names, KeepsCounts, reads_after}
-use Rattle.mz_shelf.specs.Shelf.{ReadsFile, ReadStopped, ReadFailed, FoundNoFile, FoundLongFile, most_bytes}
+use Rattle.mz_num.specs.Limits.{most_file_bytes}
+use Rattle.mz_shelf.specs.State.{State, Contents, Files, Names, reads_after}
+use Rattle.mz_shelf.specs.Shelf.{ReadsFile, ReadStopped, ReadFailed, FoundNoFile, FoundLongFile}
 use Rattle.mz_shelf.specs.declared.shelf.ShelfErr.{ShelfErr}
 use Rattle.mz_shelf.specs.declared.shelf.ShelfErr.TheVariants.{Failed}
-use Rattle.mz_shelf.proofs.ChainLemmas.{KeepsCounts-refl, KeepsCounts-trans, Rose-from}
+use Rattle.mz_shelf.proofs.CountLemmas.{OneMiss-from, OneOver-from}
 use Rattle.mz_params.specs.Folder.{file_in}
 use Rattle.mz_tables.specs.declared.fault.RowFault.{RowFault}
 use Rattle.mz_tables.specs.declared.wants.Want.{Want}
@@ -40,10 +41,10 @@ read_on names more old mid new early late = late ∙ ap (reads_after more) early
 
 -- nothing was read
 pub only_read : (st : State) → OnlyRead st st
-only_read st = record { contents = refl; counts = KeepsCounts-refl st.counts }
+only_read st = record { contents = refl; counts = refl }
 
 read_along : {old mid new : State} → OnlyRead old mid → OnlyRead mid new → OnlyRead old new
-read_along early late = record { contents = late.contents ∙ early.contents; counts = KeepsCounts-trans early.counts late.counts }
+read_along early late = record { contents = late.contents ∙ early.contents; counts = late.counts ∙ early.counts }
 
 pub told_along : (old mid : State) (P : Files → Type 0) → mid.contents ≡ old.contents → IfTold mid P → IfTold old P
 told_along old mid P same h = subst (λ (c : Contents). IfSome c.files P) same h
@@ -56,13 +57,13 @@ always : (o : Option Files) (P : Files → Type 0) → ((files : Files) → P fi
 always None P all = tt
 always (Some files) P all = all files
 
-rose_along : (fault : InputFault) (old mid new : State) → KeepsCounts old.counts mid.counts → RoseForFault fault mid new → RoseForFault fault old new
-rose_along (TooLong which) old mid new keeps rose = Rose-from old.counts.overs mid.counts.overs new.counts.overs keeps.overs rose
-rose_along (Param fault) old mid new keeps rose = rose
-rose_along (Table which fault) old mid new keeps rose = rose
-rose_along (Row which fault) old mid new keeps rose = rose
-rose_along (Sum what) old mid new keeps rose = rose
-rose_along (Weight id) old mid new keeps rose = rose
+rose_along : (fault : InputFault) (old mid new : State) → mid.counts ≡ old.counts → RoseForFault fault mid new → RoseForFault fault old new
+rose_along (TooLong which) old mid new same rose = OneOver-from same rose
+rose_along (Param fault) old mid new same rose = (rose.0 ∙ same, rose.1)
+rose_along (Table which fault) old mid new same rose = (rose.0 ∙ same, rose.1)
+rose_along (Row which fault) old mid new same rose = (rose.0 ∙ same, rose.1)
+rose_along (Sum what) old mid new same rose = rose ∙ same
+rose_along (Weight id) old mid new same rose = rose ∙ same
 
 -- what comes of a first reading that ended, and of one that went on
 ends_missing : {X Y : Type 0} (reads : Reads X) (next : X → Reads Y) (name : List ℕ) → reads.outcome ≡ Missing name → (then_read reads next).outcome ≡ Missing name
@@ -147,14 +148,14 @@ stops first next old new (Shelf name) h = record {
   failed = h.failed;
 }
 stops first next old new (Absent name) h = record {
-  read = h.read;
+  contents = h.contents;
   names = if_both old.contents.files (λ files. (first files).outcome ≡ Missing name) (λ files. ReadEach (first files).names old new) (λ files. ReadEach (then_read (first files) (λ x. next x files)).names old new)
       (λ files is each. each_of (first files).names _ old new (names_missing (first files) (λ x. next x files) name is) each) h.missing h.names;
   rose = h.rose;
   missing = IfSome_then old.contents.files h.missing (λ files is. ends_missing (first files) (λ x. next x files) name is);
 }
 stops first next old new (Input fault) h = record {
-  read = h.read;
+  contents = h.contents;
   names = if_both old.contents.files (λ files. (first files).outcome ≡ Refused fault) (λ files. ReadEach (first files).names old new) (λ files. ReadEach (then_read (first files) (λ x. next x files)).names old new)
       (λ files is each. each_of (first files).names _ old new (names_refused (first files) (λ x. next x files) fault is) each) h.refused h.names;
   rose = h.rose;
@@ -201,13 +202,13 @@ goes_on first next x old mid new (Err (Shelf name)) given h = record {
   failed = h.failed;
 }
 goes_on first next x old mid new (Err (Absent name)) given h = record {
-  read = read_along given.read h.read;
+  contents = h.contents ∙ given.read.contents;
   names = later_each first next x old mid new given h.names;
-  rose = Rose-from old.counts.misses mid.counts.misses new.counts.misses given.read.counts.misses h.rose;
+  rose = OneMiss-from given.read.counts h.rose;
   missing = later_is first next x (Missing name) old mid given h.missing;
 }
 goes_on first next x old mid new (Err (Input fault)) given h = record {
-  read = read_along given.read h.read;
+  contents = h.contents ∙ given.read.contents;
   names = later_each first next x old mid new given h.names;
   rose = rose_along fault old mid new given.read.counts h.rose;
   refused = later_is first next x (Refused fault) old mid given h.refused;
@@ -234,11 +235,11 @@ is_taken made st (Ok x) is = record { read = only_read st; names = none_read mad
 is_taken made st (Err (Shelf name)) is = absurd is
 is_taken made st (Err (Absent name)) is = absurd is
 is_taken made st (Err (Input (TooLong which))) is = absurd is
-is_taken made st (Err (Input (Param fault))) is = record { read = only_read st; names = none_read made st; rose = is.1; refused = always st.contents.files (λ files. outcome_of made ≡ Refused (Param fault)) (λ files. outcome_is made (Err (Param fault)) is.0) }
-is_taken made st (Err (Input (Table which fault))) is = record { read = only_read st; names = none_read made st; rose = is.1; refused = always st.contents.files (λ files. outcome_of made ≡ Refused (Table which fault)) (λ files. outcome_is made (Err (Table which fault)) is.0) }
-is_taken made st (Err (Input (Row which fault))) is = record { read = only_read st; names = none_read made st; rose = is.1; refused = always st.contents.files (λ files. outcome_of made ≡ Refused (Row which fault)) (λ files. outcome_is made (Err (Row which fault)) is.0) }
-is_taken made st (Err (Input (Sum what))) is = record { read = only_read st; names = none_read made st; rose = tt; refused = always st.contents.files (λ files. outcome_of made ≡ Refused (Sum what)) (λ files. outcome_is made (Err (Sum what)) is) }
-is_taken made st (Err (Input (Weight id))) is = record { read = only_read st; names = none_read made st; rose = tt; refused = always st.contents.files (λ files. outcome_of made ≡ Refused (Weight id)) (λ files. outcome_is made (Err (Weight id)) is) }
+is_taken made st (Err (Input (Param fault))) is = record { contents = refl; names = none_read made st; rose = (refl, is.1); refused = always st.contents.files (λ files. outcome_of made ≡ Refused (Param fault)) (λ files. outcome_is made (Err (Param fault)) is.0) }
+is_taken made st (Err (Input (Table which fault))) is = record { contents = refl; names = none_read made st; rose = (refl, is.1); refused = always st.contents.files (λ files. outcome_of made ≡ Refused (Table which fault)) (λ files. outcome_is made (Err (Table which fault)) is.0) }
+is_taken made st (Err (Input (Row which fault))) is = record { contents = refl; names = none_read made st; rose = (refl, is.1); refused = always st.contents.files (λ files. outcome_of made ≡ Refused (Row which fault)) (λ files. outcome_is made (Err (Row which fault)) is.0) }
+is_taken made st (Err (Input (Sum what))) is = record { contents = refl; names = none_read made st; rose = refl; refused = always st.contents.files (λ files. outcome_of made ≡ Refused (Sum what)) (λ files. outcome_is made (Err (Sum what)) is) }
+is_taken made st (Err (Input (Weight id))) is = record { contents = refl; names = none_read made st; rose = refl; refused = always st.contents.files (λ files. outcome_of made ≡ Refused (Weight id)) (λ files. outcome_is made (Err (Weight id)) is) }
 is_taken made st (Err NoMemory) is = nothing_read (λ files. taken made) st
 
 -- what the bytes, or the rows, of a first reading are taken as
@@ -251,10 +252,10 @@ pub by_default : {X : Type 0} (x default : X) (st : State) → x ≡ default →
 by_default x default st is = record { read = only_read st; names = none_read (Ok default) st; given = always st.contents.files (λ files. Given default ≡ Given x) (λ files. ap Given (sym is)) }
 
 -- one file
-fits : (n : ℕ) → n ≤ most_bytes → nat_lt most_bytes n ≡ false
-fits n short = le-ltb most_bytes n short
+fits : (n : ℕ) → n ≤ most_file_bytes → nat_lt most_file_bytes n ≡ false
+fits n short = le-ltb most_file_bytes n short
 
-given_bytes : (name bytes : List ℕ) (which : Which) (found : Option (List ℕ)) → length bytes ≤ most_bytes → found ≡ Some bytes → bytes_of name which found ≡ Given bytes
+given_bytes : (name bytes : List ℕ) (which : Which) (found : Option (List ℕ)) → length bytes ≤ most_file_bytes → found ≡ Some bytes → bytes_of name which found ≡ Given bytes
 given_bytes name bytes which found short is = rw (is, fits (length bytes) short) refl
 
 one_read : (name : List ℕ) (which : Which) (old new : State) → ReadEach (name ∷ []) old new → IfTold old (λ files. ReadEach (file_read files name which).names old new)
@@ -281,21 +282,21 @@ failed_as name file which error {old} {new} same is stopped =
 
 pub file_missing : (name : List ℕ) (which : Which) {old new : State} → FoundNoFile name old new → IsMissing (λ files. file_read files name which) old new name
 file_missing name which {old} {new} none = record {
-  read = record { contents = none.contents; counts = none.counts };
+  contents = none.contents;
   names = one_read name which old new none.reads;
-  rose = none.rose;
+  rose = none.counts;
   missing = IfSome_then old.contents.files none.told (λ files is. ap (bytes_of name which) is);
 }
 
-long_bytes : (name : List ℕ) (which : Which) (found : Option (List ℕ)) → IsSomeAnd found (λ bytes. most_bytes < length bytes) → bytes_of name which found ≡ Refused (TooLong which)
+long_bytes : (name : List ℕ) (which : Which) (found : Option (List ℕ)) → IsSomeAnd found (λ bytes. most_file_bytes < length bytes) → bytes_of name which found ≡ Refused (TooLong which)
 long_bytes name which None long = absurd long
-long_bytes name which (Some bytes) long = rw (lt-ltb most_bytes (length bytes) long) refl
+long_bytes name which (Some bytes) long = rw (lt-ltb most_file_bytes (length bytes) long) refl
 
 pub file_long : (name : List ℕ) (which : Which) {old new : State} → FoundLongFile name old new → IsRefused (λ files. file_read files name which) old new (TooLong which)
 file_long name which {old} {new} long = record {
-  read = record { contents = long.contents; counts = long.counts };
+  contents = long.contents;
   names = one_read name which old new long.reads;
-  rose = long.rose;
+  rose = long.counts;
   refused = IfSome_then old.contents.files long.told (λ files is. long_bytes name which (get files name) is);
 }
 

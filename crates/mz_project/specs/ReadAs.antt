@@ -2,7 +2,7 @@
 use Rattle.std.specs.Prelude.{◌≡◌, ℕ, List, ◌∷◌, ◌++◌, Result, Ok, Err, IfSome}
 use Rattle.mz_params.specs.declared.fault.ParamFault.{ParamFault}
 use Rattle.mz_params.specs.declared.fault.ParamFault.TheVariants.{NoMemory as NoMemoryForParams}
-use Rattle.mz_shelf.specs.State.{State, Files, Rose, KeepsCounts, reads_after}
+use Rattle.mz_shelf.specs.State.{State, Files, OneMiss, OneOver, reads_after}
 use Rattle.mz_shelf.specs.Shelf.{ReadFailed}
 use Rattle.mz_tables.specs.declared.fault.RowFault.{RowFault}
 use Rattle.mz_tables.specs.declared.fault.RowFault.TheVariants.{NoMemory as NoMemoryForRows}
@@ -20,10 +20,10 @@ use Rattle.mz_project.specs.Reads.Outcome.{Missing, Refused, Given}
 abbrev pub IfTold : State → (Files → Type 0) → Type 0
 IfTold state P = IfSome state.contents.files P
 
--- nothing was written or said
+-- nothing was written or said, and each call was done
 pub record OnlyRead (old new : State) : Type 0 where
   pub contents : new.contents ≡ old.contents
-  pub counts : KeepsCounts old.counts new.counts
+  pub counts : new.counts ≡ old.counts
 
 -- want of memory is no fault of the input
 abbrev pub IsParamFault : ParamFault → Type 0
@@ -38,14 +38,14 @@ abbrev pub IsRowFault : RowFault → Type 0
 IsRowFault NoMemoryForRows = ⊥
 IsRowFault fault = Unit {0}
 
--- for a file that is too long a count rose, and no want of memory stands within a fault
+-- a file that is too long raised its count alone, and other faults raised none; no want of memory stands within a fault
 abbrev pub RoseForFault : InputFault → State → State → Type 0
-RoseForFault (TooLong which) old new = Rose old.counts.overs new.counts.overs
-RoseForFault (Param fault) old new = IsParamFault fault
-RoseForFault (Table which fault) old new = IsTableFault fault
-RoseForFault (Row which fault) old new = IsRowFault fault
-RoseForFault (Sum what) old new = Unit {0}
-RoseForFault (Weight id) old new = Unit {0}
+RoseForFault (TooLong which) old new = OneOver old.counts new.counts
+RoseForFault (Param fault) old new = (new.counts ≡ old.counts) × IsParamFault fault
+RoseForFault (Table which fault) old new = (new.counts ≡ old.counts) × IsTableFault fault
+RoseForFault (Row which fault) old new = (new.counts ≡ old.counts) × IsRowFault fault
+RoseForFault (Sum what) old new = new.counts ≡ old.counts
+RoseForFault (Weight id) old new = new.counts ≡ old.counts
 
 -- each of these names was read, once and in this order, and no other
 abbrev pub ReadEach : List (List ℕ) → State → State → Type 0
@@ -73,16 +73,16 @@ pub record IsGiven {X : Type 0} (reads : Files → Reads X) (old new : State) (x
 
 -- the input is refused for this fault, as told files are
 pub record IsRefused {X : Type 0} (reads : Files → Reads X) (old new : State) (fault : InputFault) : Type 0 where
-  pub read : OnlyRead old new
+  pub contents : new.contents ≡ old.contents
   pub names : IfTold old (λ files. ReadEach (reads files).names old new)
   pub rose : RoseForFault fault old new
   pub refused : IfTold old (λ files. (reads files).outcome ≡ Refused fault)
 
 -- no file has this name, and among told files it is the one that is missing
 pub record IsMissing {X : Type 0} (reads : Files → Reads X) (old new : State) (name : List ℕ) : Type 0 where
-  pub read : OnlyRead old new
+  pub contents : new.contents ≡ old.contents
   pub names : IfTold old (λ files. ReadEach (reads files).names old new)
-  pub rose : Rose old.counts.misses new.counts.misses
+  pub rose : OneMiss old.counts new.counts
   pub missing : IfTold old (λ files. (reads files).outcome ≡ Missing name)
 
 -- a read of this name failed, after nothing but the reads before it

@@ -1,8 +1,8 @@
 -- What is read of the files: their names in order, and what comes of them.
 use Rattle.std.specs.Prelude.{ℕ, nat_lt, if◌then◌else◌, List, [], ◌∷◌, ◌++◌, length, Option, Some, None, Result, Ok, Err}
 use Rattle.std.specs.FinMap.{get}
+use Rattle.mz_num.specs.Limits.{most_file_bytes}
 use Rattle.mz_shelf.specs.State.{Files}
-use Rattle.mz_shelf.specs.Shelf.{most_bytes}
 use Rattle.mz_params.specs.Folder.{file_in}
 use Rattle.mz_tables.specs.declared.fault.RowFault.{RowFault}
 use Rattle.mz_tables.specs.declared.fault.TableFault.{TableFault}
@@ -42,7 +42,7 @@ taken result = record { names = []; outcome = outcome_of result }
 -- the bytes of a file that may be too long
 abbrev pub bytes_of : List ℕ → Which → Option (List ℕ) → Outcome (List ℕ)
 bytes_of name which None = Missing name
-bytes_of name which (Some bytes) = if nat_lt most_bytes (length bytes) then Refused (TooLong which) else Given bytes
+bytes_of name which (Some bytes) = if nat_lt most_file_bytes (length bytes) then Refused (TooLong which) else Given bytes
 
 abbrev pub file_read : Files → List ℕ → Which → Reads (List ℕ)
 file_read files name which = record { names = name ∷ []; outcome = bytes_of name which (get files name) }

@@ -1,27 +1,12 @@
 -- Laws of chains of acts: what was done in parts was done as a whole.
-use Rattle.std.proofs.Common.{◌≡◌, ◌≤◌, ℕ, ◌+◌, min, List, [], ◌∷◌, ◌++◌, take, length, refl, sym, ap, ◌∙◌, append_assoc, arith}
+use Rattle.std.proofs.Common.{◌≡◌, ℕ, ◌+◌, min, List, [], ◌∷◌, ◌++◌, take, length, refl, sym, ap, ◌∙◌, append_assoc, arith}
 use Rattle.std.proofs.Math.Seq.{take-append-add, take-length}
 use Rattle.std.proofs.lemmas.List.{take_min, take-append-le}
-use Rattle.mz_shelf.specs.State.{State, Contents, Counts, Rose, KeepsCounts}
+use Rattle.mz_shelf.specs.State.{State, Contents, OneFault}
 use Rattle.mz_shelf.specs.Act.{Act, after, after_all, name_of}
 use Rattle.mz_shelf.specs.Shelf.{DidAct, ActFailed}
 use Rattle.mz_shelf.specs.Chain.{DidAll, StoppedAt, StoppedBetween}
-
--- the counts
-
-pub KeepsCounts-refl : (counts : Counts) → KeepsCounts counts counts
-KeepsCounts-refl counts = record { faults = omega arith; misses = omega arith; overs = omega arith }
-
-pub KeepsCounts-trans : {a b c : Counts} → KeepsCounts a b → KeepsCounts b c → KeepsCounts a c
-KeepsCounts-trans h k = record { faults = omega arith; misses = omega arith; overs = omega arith }
-
--- a count that rose from a later value rose from an earlier one
-pub Rose-from : (a b c : ℕ) → a ≤ b → Rose b c → Rose a c
-Rose-from a b c h rose = omega arith
-
--- a count that rose stays risen
-pub Rose-to : (a b c : ℕ) → Rose a b → b ≤ c → Rose a c
-Rose-to a b c rose h = omega arith
+use Rattle.mz_shelf.proofs.CountLemmas.{OneFault-from}
 
 -- acts in order
 
@@ -30,7 +15,7 @@ after_all-append [] more c = refl
 after_all-append (act ∷ acts) more c = after_all-append acts more (after act c)
 
 pub DidAll-nil : (state : State) → DidAll [] state state
-DidAll-nil state = record { contents = refl; counts = KeepsCounts-refl state.counts; reads = refl }
+DidAll-nil state = record { contents = refl; counts = refl; reads = refl }
 
 pub DidAll-one : {act : Act} {old new : State} → DidAct act old new → DidAll (act ∷ []) old new
 DidAll-one did = record { contents = did.contents; counts = did.counts; reads = did.reads }
@@ -40,7 +25,7 @@ pub DidAll-append : {done rest : List Act} {old between new : State}
 DidAll-append {done} {rest} {old} {between} {new} early late = record {
   contents =
       late.contents ∙ ap (after_all rest) early.contents ∙ sym (after_all-append done rest old.contents);
-  counts = KeepsCounts-trans early.counts late.counts;
+  counts = late.counts ∙ early.counts;
   reads = late.reads ∙ early.reads;
 }
 
@@ -88,15 +73,10 @@ StoppedAt-before {acts} {name} {old} {new} more stop = record {
   part = stop.part;
 }
 
-pub StoppedAt-keeps : {acts : List Act} {name : List ℕ} {old new : State}
-    → StoppedAt acts name old new → KeepsCounts old.counts new.counts
-StoppedAt-keeps stop = KeepsCounts-trans stop.whole.counts stop.part.counts
-
--- the faults rose in the whole chain
-pub StoppedAt-rose : {acts : List Act} {name : List ℕ} {old new : State}
-    → StoppedAt acts name old new → Rose old.counts.faults new.counts.faults
-StoppedAt-rose {acts} {name} {old} {new} stop =
-    Rose-from old.counts.faults stop.between.counts.faults new.counts.faults stop.whole.counts.faults stop.part.rose
+-- the faults alone rose in the whole chain, and by one
+pub StoppedAt-one_fault : {acts : List Act} {name : List ℕ} {old new : State}
+    → StoppedAt acts name old new → OneFault old.counts new.counts
+StoppedAt-one_fault stop = OneFault-from stop.whole.counts stop.part.counts
 
 -- a chain that ended between two acts
 
@@ -104,7 +84,7 @@ pub StoppedBetween-nothing : {old new : State} (acts : List Act) → new ≡ old
 StoppedBetween-nothing {old} {new} acts e = record {
   count = 0;
   contents = ap (λ (state : State). state.contents) e;
-  counts = rw e (KeepsCounts-refl old.counts);
+  counts = ap (λ (state : State). state.counts) e;
   reads = ap (λ (state : State). state.reads) e;
 }
 
@@ -126,7 +106,7 @@ StoppedBetween-after {done} {rest} {old} {between} {new} whole stop = record {
       ∙ ap (after_all (take stop.count rest)) whole.contents
       ∙ sym (after_all-append done (take stop.count rest) old.contents)
       ∙ ap (λ (acts : List Act). after_all acts old.contents) (sym (take-append-add done rest stop.count));
-  counts = KeepsCounts-trans whole.counts stop.counts;
+  counts = stop.counts ∙ whole.counts;
   reads = stop.reads ∙ whole.reads;
 }
 

@@ -1,18 +1,18 @@
 -- A call that fails by its number keeps the promise of a failing call.
-use Rattle.std.proofs.Common.{ℕ, ◌≤◌, List, refl, arith}
+use Rattle.std.proofs.Common.{ℕ, ◌≤◌, List, refl}
 use Rattle.mz_shelf.specs.Act.{Act}
 use Rattle.mz_shelf.specs.Act.Act.{Say, Write}
 use Rattle.mz_shelf.specs.Shelf.{ReadFailed, ActFailed}
-use Rattle.mz_shelf.specs.Memory.{Failing, state_of, told, held_after, held_after_read, raised, ReadFailedInTurn, FailedInTurn}
+use Rattle.mz_shelf.specs.State.{raised}
+use Rattle.mz_shelf.specs.Memory.{Failing, state_of, told, held_after, held_after_read, ReadFailedInTurn, FailedInTurn}
 use Rattle.mz_shelf.specs.Act.{first}
 
 read_faulted : (name : List ℕ) (old : Failing) → old.faults ≤ raised old.faults
     → ReadFailed name (state_of old) (told (raised old.faults) (held_after_read name old.held))
 read_faulted name old keeps = record {
   contents = refl;
-  counts = record { faults = keeps; misses = omega arith; overs = omega arith };
+  counts = record { faults = record { by_one = refl; keeps = keeps }; misses = refl; overs = refl };
   reads = refl;
-  rose = omega arith;
 }
 
 pub ReadFailed-in_turn : (name : List ℕ) (old new : Failing) → old.faults ≤ new.faults → ReadFailedInTurn name old new
@@ -24,16 +24,14 @@ act_faulted : (act : Act) (old : Failing) → old.faults ≤ raised old.faults
 act_faulted (Say bytes) old keeps = record {
   done = old.cut;
   contents = refl;
-  counts = record { faults = keeps; misses = omega arith; overs = omega arith };
+  counts = record { faults = record { by_one = refl; keeps = keeps }; misses = refl; overs = refl };
   reads = refl;
-  rose = omega arith;
 }
 act_faulted (Write name bytes) old keeps = record {
   done = old.cut;
   contents = refl;
-  counts = record { faults = keeps; misses = omega arith; overs = omega arith };
+  counts = record { faults = record { by_one = refl; keeps = keeps }; misses = refl; overs = refl };
   reads = refl;
-  rose = omega arith;
 }
 
 pub ActFailed-in_turn : (act : Act) (old new : Failing) → old.faults ≤ new.faults → FailedInTurn act old new

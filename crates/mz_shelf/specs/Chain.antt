@@ -1,13 +1,13 @@
 -- A chain of acts, which the first fault ends.
 use Rattle.std.specs.Prelude.{◌≡◌, ℕ, List, ◌∷◌, ◌++◌, take}
-use Rattle.mz_shelf.specs.State.{State, KeepsCounts}
+use Rattle.mz_shelf.specs.State.{State}
 use Rattle.mz_shelf.specs.Act.{Act, after_all, name_of}
 use Rattle.mz_shelf.specs.Shelf.{ActFailed}
 
 -- all acts were done
 pub record DidAll (acts : List Act) (old new : State) : Type 0 where
   pub contents : new.contents ≡ after_all acts old.contents
-  pub counts : KeepsCounts old.counts new.counts
+  pub counts : new.counts ≡ old.counts
   pub reads : new.reads ≡ old.reads
 
 -- some acts were done whole, and the next, on this name, failed after some of its bytes
@@ -25,5 +25,5 @@ pub record StoppedAt (acts : List Act) (name : List ℕ) (old new : State) : Typ
 pub record StoppedBetween (acts : List Act) (old new : State) : Type 0 where
   pub count : ℕ
   pub contents : new.contents ≡ after_all (take count acts) old.contents
-  pub counts : KeepsCounts old.counts new.counts
+  pub counts : new.counts ≡ old.counts
   pub reads : new.reads ≡ old.reads

@@ -2,8 +2,7 @@
 use Rattle.std.specs.Prelude.{ℕ, List, [], ◌∷◌, ◌++◌, None}
 use Rattle.mz_shelf.specs.declared.shelf.ShelfErr.{ShelfErr}
 use Rattle.mz_shelf.specs.declared.shelf.ShelfErr.TheVariants.{Failed, Absent, TooLong, NoMemory}
-use Rattle.mz_shelf.specs.State.{Counts, State}
-use Rattle.mz_shelf.specs.Memory.{raised}
+use Rattle.mz_shelf.specs.State.{Counts, State, raised}
 
 -- neither files nor said bytes nor reads are told
 abbrev pub untold : Counts → State

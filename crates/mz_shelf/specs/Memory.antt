@@ -5,7 +5,7 @@ use Rattle.std.specs.FinMap.{insert}
 use Rattle.std.specs.Coded.{Coded, code_by, coded×, coded_ℕ, coded_list}
 use Rattle.mz_shelf.specs.declared.shelf.ShelfErr.{ShelfErr}
 use Rattle.mz_shelf.specs.declared.shelf.ShelfErr.TheVariants.{Failed, Absent, TooLong, NoMemory}
-use Rattle.mz_shelf.specs.State.{Files, State}
+use Rattle.mz_shelf.specs.State.{Files, State, raised}
 use Rattle.mz_shelf.specs.Entries.{files_code}
 use Rattle.mz_shelf.specs.Act.{Act, first}
 use Rattle.mz_shelf.specs.Act.Act.{Say, Write}
@@ -51,10 +51,6 @@ told faults held = record {
 
 abbrev pub state_of : Failing → State
 state_of shelf = told shelf.faults shelf.held
-
--- one more, up to the last value of a u64
-abbrev pub raised : ℕ → ℕ
-raised count = min (count + 1) (2 ^ 64 - 1)
 
 abbrev pub held_after : Act → Held → Held
 held_after (Say bytes) held = record held { said = held.said ++ bytes }

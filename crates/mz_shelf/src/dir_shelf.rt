@@ -1,11 +1,12 @@
 //! Real files below a folder, and standard output.
 ghost use Rattle.std.specs.Prelude.{◌≡◌, ◌≤◌, ◌<◌, ℕ, length, take, IfOk, IsErrOf, IfSome, OnOk, OnErr, string_bytes};
 ghost use Rattle.std.specs.Io.KnownBytes.{Appends};
+ghost use Rattle.mz_num.specs.Limits.{most_file_bytes};
 ghost use Rattle.mz_shelf.specs.State.{KeepsCounts};
 ghost use Rattle.mz_shelf.specs.Folder.{untold, counts_after, path_of};
-ghost use Rattle.mz_shelf.specs.Shelf.{most_bytes};
 
-use crate::shelf::{MOST_BYTES, Shelf, ShelfErr};
+use crate::shelf::{Shelf, ShelfErr};
+use mz_num::limits::MOST_FILE_BYTES;
 use std::alloc::{AllocError, Global};
 use std::io::{ErrorKind, Read, Write};
 use std::marker::Model;
@@ -52,7 +53,7 @@ impl<'r, R: Files + Print> DirShelf<'r, R> {
 
     /// The bytes of a file, or why there are none. No file has the empty name.
     fn read(&self, alloc: Global, name: &str) -> Result<Vec<u8>, ShelfErr>
-        ensures { IfOk result (λ bytes. length bytes.items ≤ most_bytes) }
+        ensures { IfOk result (λ bytes. length bytes.items ≤ most_file_bytes) }
     {
         if name.is_empty() {
             return Err(ShelfErr::Absent);
@@ -138,13 +139,16 @@ fn path_below(alloc: Global, folder: &str, name: &str) -> Result<String, AllocEr
 
 /// All that a reader gives, if it isn't too long.
 fn read_whole<S: Read + Drop>(alloc: Global, source: S) -> Result<Vec<u8>, ShelfErr>
-    ensures short { IfOk result (λ bytes. length bytes.items ≤ most_bytes) }
+    ensures short { IfOk result (λ bytes. length bytes.items ≤ most_file_bytes) }
     ensures whole { IfOk result (λ bytes. IfSome (S.remaining source) (λ all. bytes.items ≡ all)) }
-    ensures long { IsErrOf result ShelfErr.TooLong → IfSome (S.remaining source) (λ all. most_bytes < length all) }
+    ensures long { IsErrOf result ShelfErr.TooLong → IfSome (S.remaining source) (λ all. most_file_bytes < length all) }
 {
     let mut bytes = Vec::new(alloc);
-    match source.take(MOST_BYTES as u64 + 1).read_to_end(&mut bytes) {
-        Ok(_) if bytes.len() > MOST_BYTES => Err(ShelfErr::TooLong),
+    match source
+        .take(MOST_FILE_BYTES as u64 + 1)
+        .read_to_end(&mut bytes)
+    {
+        Ok(_) if bytes.len() > MOST_FILE_BYTES => Err(ShelfErr::TooLong),
         Ok(_) => Ok(bytes),
         Err(error) if error.kind() == ErrorKind::OutOfMemory => Err(ShelfErr::NoMemory),
         Err(_) => Err(ShelfErr::Failed),

@@ -7,7 +7,8 @@ ghost use Rattle.mz_shelf.specs.Memory.{told, held_after, held_after_read, held_
 ghost use Rattle.mz_shelf.specs.Shelf.{ReadsFile, ReadStopped, DidAct, ActStopped};
 
 use crate::file_map::FileMap;
-use crate::shelf::{MOST_BYTES, Shelf, ShelfErr};
+use crate::shelf::{Shelf, ShelfErr};
+use mz_num::limits::MOST_FILE_BYTES;
 use mz_num::{NoMemory, Text};
 use std::alloc::Global;
 use std::marker::Model;
@@ -118,7 +119,7 @@ impl Shelf for SafeShelf {
                 self.misses = self.misses.saturating_add(1);
                 Err(ShelfErr::Absent)
             }
-            Some(bytes) if bytes.len() > MOST_BYTES => {
+            Some(bytes) if bytes.len() > MOST_FILE_BYTES => {
                 self.note_read(alloc, name)?;
                 self.overs = self.overs.saturating_add(1);
                 Err(ShelfErr::TooLong)

@@ -9,9 +9,6 @@ use mz_num::NoMemory;
 use std::alloc::{AllocError, Global};
 use thiserror::Error;
 
-/// The most bytes that a file may have to be read.
-pub(crate) const MOST_BYTES: usize = 268_435_456;
-
 /// Why a shelf's call wasn't done.
 #[derive(Clone, Copy, Debug, PartialEq, Eq, Error)]
 pub enum ShelfErr {
@@ -46,8 +43,9 @@ impl From<AllocError> for ShelfErr {
 }
 
 /// Named files and said bytes. A shelf may tell what it holds and which names were read, or tell nothing
-/// of it; no call changes whether it does. Its counts of faults, of missed files and of files that are too
-/// long never fall. A write or a say reads nothing.
+/// of it; no call changes whether it does. It counts faults, missed files and files that are too long: such
+/// a call raises its own count by one, and no other. A call that is done leaves all counts as they were, and
+/// so does want of memory. A write or a say reads nothing.
 pub trait Shelf {
     ghost state: { Self → State };
 

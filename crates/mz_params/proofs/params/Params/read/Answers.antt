@@ -1,6 +1,6 @@
 use Rattle.std.proofs.Common.{ap, ◌∙◌}
 use Rattle.mz_params.specs.Given.{params_of}
-use Rattle.mz_params.specs.Lines.{entries_of}
+use Rattle.mz_params.specs.Lines.{lines_of}
 use Rattle.mz_params.proofs.ReadLemmas.{answers_line_fault, answers_late_fault, answers_params, late_fault}
 use Rattle.mz_params.proofs.AcceptedLemmas.{accepted}
 use Rattle.mz_params.proofs.params.Params.read.Goals as goal
@@ -22,6 +22,6 @@ returns-clause-answer c =
 
 pub returns-clause-accepted : goal.returns-clause-accepted
 returns-clause-accepted c =
-    accepted (entries_of c.args.bytes.now) c.in-Ok-given_params.params
+    accepted (lines_of c.args.bytes.now) c.in-Ok-given_params.params
     (c.in-Ok-given_params.ensures ∙ ap params_of (c.deref.ensures.value ∙ c.in-Ok.ensures.lines))
     (late_fault c.in-Ok-given_params.params _ _ _ _ c.missing.ensures c.limit.ensures c.or.ensures c.in-None.is)

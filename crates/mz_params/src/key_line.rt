@@ -1,7 +1,7 @@
 //! A line of a parameter file that is taken, since its first word is a key.
 ghost use Rattle.std.specs.Prelude.{◌≡◌};
 ghost use Rattle.std.specs.Str.Lines.{strip_carriage_return};
-ghost use Rattle.mz_params.specs.Lines.{entry_of};
+ghost use Rattle.mz_params.specs.Lines.{line_of};
 
 use crate::key::{Key, find_key};
 use crate::word::word;
@@ -10,20 +10,20 @@ use std::marker::Model;
 
 /// A key, and what follows it on its line.
 #[derive(Drop)]
-pub(crate) struct Line<'a> {
+pub(crate) struct KeyLine<'a> {
     key: Key,
     value: &'a [u8],
 }
 
-impl<'a> Model for Line<'a> {
-    ghost use Rattle.mz_params.specs.Entry.{Entry};
+impl<'a> Model for KeyLine<'a> {
+    ghost use Rattle.mz_params.specs.KeyLine.{KeyLine};
 
-    ghost Value = { Entry };
+    ghost Value = { KeyLine };
 
     ghost view = { λ l. record { key = l.key; value = l.value.now } };
 }
 
-impl<'a> Line<'a> {
+impl<'a> KeyLine<'a> {
     pub(crate) fn key(&self) -> Key
         ensures { result ≡ self.now.key }
     {
@@ -38,14 +38,14 @@ impl<'a> Line<'a> {
 }
 
 /// The key of a line and its value; none where the first word is no key.
-#[tactic(auto, unfolding(crate::specs::Lines::entry_of))]
-pub(crate) fn read_line(line: &[u8]) -> Option<Line<'_>>
-    ensures { result ≡ entry_of line.now }
+#[tactic(auto, unfolding(crate::specs::Lines::line_of))]
+pub(crate) fn read_line(line: &[u8]) -> Option<KeyLine<'_>>
+    ensures { result ≡ line_of line.now }
 {
     let text = trim(without_return(line));
     let first = word(text);
     match find_key(first) {
-        Some(key) => Some(Line {
+        Some(key) => Some(KeyLine {
             key,
             value: trim(&text[first.len()..]),
         }),
