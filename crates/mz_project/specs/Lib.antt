@@ -4,6 +4,7 @@ pub mod Defaults
 pub mod Fits
 pub mod GivenFiles
 pub mod Holdings
+pub mod InputFiles
 pub mod Lengths
 pub mod Limits
 pub mod Numbers

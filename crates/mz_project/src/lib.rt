@@ -7,6 +7,7 @@ mod boundaries;
 mod defaults;
 mod fault;
 mod file;
+mod input_files;
 mod limits;
 mod numbers;
 mod parameters;
@@ -19,5 +20,6 @@ mod targets;
 mod tests;
 
 pub use fault::{InputFault, ReadFault, What, Which};
+pub use input_files::{file_word, push_column_name};
 pub use parameters::read_params;
 pub use project::read_project;
