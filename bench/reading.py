@@ -5,8 +5,9 @@
 
 It makes projects of 2,000, 20,000 and 100,000 planning units (three zones, two costs, zone costs, zone
 sets, locks, 20 features with amounts in a quarter of the pairs, contributions, a zone target, the
-boundaries of a grid, zone boundary costs), one with 5,000,000 rows of amounts, and unit files of 5,000,000
-rows, short and long ones, whose tables are read whole before the 100,001st row is refused. It runs the
+boundaries of a grid, zone boundary costs), one with 5,000,000 rows of amounts, one at the limits (100,000
+units, 60 zones, 1,500 features, 5,000,000 amounts, 90,000 zone targets), and unit files of 5,000,000 rows,
+short and long ones, whose tables are read whole before the 100,001st row is refused. It runs the
 program that `rt ci` left at crates/marzone/out/marzone on each, in a folder of its own, and `wc -l` over
 the same files. A figure is the least of three runs.
 """
@@ -91,6 +92,38 @@ def project(folder, units, features, part):
     return sorted(texts)
 
 
+def at_the_limits(folder):
+    """Writes a project of 100,000 units, 60 zones, 1,500 features, 50 amounts of each unit and a zone target of
+    each feature in each zone, and gives the names of its files."""
+    units, zones, features, each = 100_000, 60, 1_500, 50
+    rng = random.Random(zones)
+    rows = {
+        "input.dat": [
+            "PUNAME pu.dat",
+            "ZONESNAME zones.dat",
+            "FEATNAME feat.dat",
+            "PUVSFEATNAME amounts.dat",
+            "ZONETARGETNAME ztarget.dat",
+            "RANDSEED 1",
+            "NUMITNS 0",
+            "STARTTEMP 0",
+            "RUNMODE 6",
+        ],
+        "zones.dat": ["zoneid,zonename", *(f"{zone},z{zone}" for zone in range(1, zones + 1))],
+        "pu.dat": ["id,cost", *(f"{unit},{rng.randint(1, 10000) / 100}" for unit in range(1, units + 1))],
+        "feat.dat": ["id,prop,spf,name", *(f"{feature},0.3,1,f{feature}" for feature in range(1, features + 1))],
+        "amounts.dat": ["featureid,puid,amount"],
+        "ztarget.dat": ["zoneid,featureid,target,targettype"],
+    }
+    rows["amounts.dat"] += [
+        f"{(unit + 30 * step) % features + 1},{unit},{rng.randint(1, 10)}" for unit in range(1, units + 1) for step in range(each)
+    ]
+    rows["ztarget.dat"] += [f"{zone},{feature},0.01,1" for feature in range(1, features + 1) for zone in range(1, zones + 1)]
+    for name, lines in rows.items():
+        (folder / name).write_text("\n".join(lines) + "\n")
+    return sorted(rows)
+
+
 def long_table(folder, rows, note):
     """Writes a project whose unit file has so many rows, with a note in each that no column asks for."""
     (folder / "input.dat").write_text("PUNAME pu.dat\nSTARTTEMP 0\nRUNMODE 6\n")
@@ -142,6 +175,9 @@ def main():
             folder = pathlib.Path(name) / title.replace(" ", "_")
             folder.mkdir()
             line(title, folder, project(folder, units, features, part))
+        folder = pathlib.Path(name) / "at_the_limits"
+        folder.mkdir()
+        line("60 zones, 90000 zone targets", folder, at_the_limits(folder))
         for title, note in (("5000000 rows", ""), ("5000000 long rows", "n" * 38)):
             folder = pathlib.Path(name) / title.replace(" ", "_")
             folder.mkdir()

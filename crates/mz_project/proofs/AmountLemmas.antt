@@ -10,9 +10,9 @@ use Rattle.mz_num.specs.Places.{list_below}
 use Rattle.mz_model.proofs.AmountLaws.{holders_of-cons}
 use Rattle.mz_num.proofs.PlaceLaws.{get_or-list_below, length-list_below, length-values_at, list_below-more, list_below-same}
 use Rattle.mz_targets.specs.Amounts.{IsAmount}
-use Rattle.mz_project.specs.declared.limits.amounts.Holdings.{Holdings}
+use Rattle.mz_project.specs.declared.limits.amounts.AmountsByFeature.{AmountsByFeature}
 use Rattle.mz_project.specs.declared.targets.Targets.{Targets}
-use Rattle.mz_project.specs.Holdings.{holdings_of}
+use Rattle.mz_project.specs.AmountsByFeature.{amounts_by_feature}
 use Rattle.mz_project.specs.Limits.{totals_are_above}
 use Rattle.mz_project.proofs.BelowLemmas.{above_below, within_below}
 
@@ -58,48 +58,48 @@ amount-above targets rows units most same each (k, within, above) =
 
 -- the units that hold each feature
 pub holders-are : (targets : Targets) (rows : List (ℕ × ℕ × ℕ)) (features : ℕ) (holders : List (List (ℕ × ℕ))) → rows ≡ targets.amounts → features ≡ length targets.features.ids → holders ≡ list_below features (holders_of rows)
-    → holders ≡ (holdings_of targets).holders
+    → holders ≡ (amounts_by_feature targets).holders
 holders-are targets rows features holders same known are = are ∙ ap (λ rs. list_below features (holders_of rs)) same ∙ ap (λ n. list_below n (holders_of targets.amounts)) known
 
-pub in-holders : (targets : Targets) (holders : List (List (ℕ × ℕ))) → holders ≡ (holdings_of targets).holders → length holders ≡ length targets.features.ids
+pub in-holders : (targets : Targets) (holders : List (List (ℕ × ℕ))) → holders ≡ (amounts_by_feature targets).holders → length holders ≡ length targets.features.ids
 in-holders targets holders are = ap length are ∙ length-list_below (length targets.features.ids) (holders_of targets.amounts)
 
-pub holders-at : (targets : Targets) (holders : List (List (ℕ × ℕ))) (feature : ℕ) (d : List (ℕ × ℕ)) → holders ≡ (holdings_of targets).holders → feature < length targets.features.ids → get_or holders feature d ≡ holders_of targets.amounts feature
+pub holders-at : (targets : Targets) (holders : List (List (ℕ × ℕ))) (feature : ℕ) (d : List (ℕ × ℕ)) → holders ≡ (amounts_by_feature targets).holders → feature < length targets.features.ids → get_or holders feature d ≡ holders_of targets.amounts feature
 holders-at targets holders feature d are known = ap (λ hs. get_or hs feature d) are ∙ get_or-list_below (length targets.features.ids) feature (holders_of targets.amounts) d known
 
 pub few-holders : (rows : List (ℕ × ℕ × ℕ)) (feature : ℕ) → length (holders_of rows feature) ≤ length rows
 unfolding holders_of
 few-holders rows feature = omega (arith, length-values_at feature (map holder_of rows), length-map rows holder_of)
 
-pub few-at : (targets : Targets) (holders : List (List (ℕ × ℕ))) (most : ℕ) → holders ≡ (holdings_of targets).holders → length targets.amounts ≤ most → All (λ list. length list ≤ most) holders
+pub few-at : (targets : Targets) (holders : List (List (ℕ × ℕ))) (most : ℕ) → holders ≡ (amounts_by_feature targets).holders → length targets.amounts ≤ most → All (λ list. length list ≤ most) holders
 few-at targets holders most are few k d within =
     let known : k < length targets.features.ids = omega (arith, within, in-holders targets holders are) in
     omega (arith, few, few-holders targets.amounts k, ap length (holders-at targets holders k d are known))
 
 -- the totals
-pub totals-are : (targets : Targets) (features : ℕ) (holders : List (List (ℕ × ℕ))) (totals : List ℕ) → holders ≡ (holdings_of targets).holders → features ≡ length targets.features.ids
-    → totals ≡ list_below features (λ feature. sum_of (get_or holders feature [])) → totals ≡ (holdings_of targets).totals
+pub totals-are : (targets : Targets) (features : ℕ) (holders : List (List (ℕ × ℕ))) (totals : List ℕ) → holders ≡ (amounts_by_feature targets).holders → features ≡ length targets.features.ids
+    → totals ≡ list_below features (λ feature. sum_of (get_or holders feature [])) → totals ≡ (amounts_by_feature targets).totals
 unfolding total_of
 totals-are targets features holders totals same known are =
     are ∙ ap (λ n. list_below n (λ feature. sum_of (get_or holders feature []))) known
     ∙ list_below-same (length targets.features.ids) (λ feature. sum_of (get_or holders feature [])) (total_of targets.amounts) 0 (λ k below. ap sum_of (holders-at targets holders k [] same below))
 
 -- the totals of features above the limit
-pub total-above : (targets : Targets) (numbers : List ℕ) → numbers ≡ (holdings_of targets).totals → ((k : ℕ) × (k < length numbers) × (10 ^ 18 < slice_index numbers k)) → totals_are_above targets ≡ true
+pub total-above : (targets : Targets) (numbers : List ℕ) → numbers ≡ (amounts_by_feature targets).totals → ((k : ℕ) × (k < length numbers) × (10 ^ 18 < slice_index numbers k)) → totals_are_above targets ≡ true
 unfolding totals_are_above
 total-above targets numbers same (k, within, above) =
     let known : k < length targets.features.ids = omega (arith, within, ap length same ∙ length-list_below (length targets.features.ids) (total_of targets.amounts)) in
     let own : get_or numbers k 0 ≡ total_of targets.amounts k = ap (λ ns. get_or ns k 0) same ∙ get_or-list_below (length targets.features.ids) k (total_of targets.amounts) 0 known in
     above_below (length targets.features.ids) k (total_of targets.amounts) known (subst (λ n. 10 ^ 18 < n) own above)
 
-pub totals-within : (targets : Targets) (numbers : List ℕ) → numbers ≡ (holdings_of targets).totals → All (λ number. number ≤ 10 ^ 18) numbers → totals_are_above targets ≡ false
+pub totals-within : (targets : Targets) (numbers : List ℕ) → numbers ≡ (amounts_by_feature targets).totals → All (λ number. number ≤ 10 ^ 18) numbers → totals_are_above targets ≡ false
 unfolding totals_are_above
 totals-within targets numbers same small =
-    let totals_small : All (λ number. number ≤ 10 ^ 18) (holdings_of targets).totals = subst (All (λ number. number ≤ 10 ^ 18)) same small in
+    let totals_small : All (λ number. number ≤ 10 ^ 18) (amounts_by_feature targets).totals = subst (All (λ number. number ≤ 10 ^ 18)) same small in
     within_below (length targets.features.ids) (total_of targets.amounts)
     (λ k known. subst (λ n. n ≤ 10 ^ 18) (get_or-list_below (length targets.features.ids) k (total_of targets.amounts) 0 known) (totals_small k 0 (subst (λ n. k < n) (sym (length-list_below (length targets.features.ids) (total_of targets.amounts))) known)))
 
--- holdings with these fields
-pub same_holdings : (targets : Targets) (amounts : List (ℕ × ℕ × ℕ)) (holders : List (List (ℕ × ℕ))) (totals : List ℕ) → amounts ≡ targets.amounts → holders ≡ (holdings_of targets).holders → totals ≡ (holdings_of targets).totals
-    → ◌≡◌ {A = Holdings} (record { amounts = amounts; holders = holders; totals = totals }) (holdings_of targets)
-same_holdings targets amounts holders totals same_amounts same_holders same_totals = λ k. record { amounts = same_amounts k; holders = same_holders k; totals = same_totals k }
+-- by_feature with these fields
+pub same_by_feature : (targets : Targets) (amounts : List (ℕ × ℕ × ℕ)) (holders : List (List (ℕ × ℕ))) (totals : List ℕ) → amounts ≡ targets.amounts → holders ≡ (amounts_by_feature targets).holders → totals ≡ (amounts_by_feature targets).totals
+    → ◌≡◌ {A = AmountsByFeature} (record { amounts = amounts; holders = holders; totals = totals }) (amounts_by_feature targets)
+same_by_feature targets amounts holders totals same_amounts same_holders same_totals = λ k. record { amounts = same_amounts k; holders = same_holders k; totals = same_totals k }

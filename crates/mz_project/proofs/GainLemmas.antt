@@ -18,12 +18,12 @@ use Rattle.mz_num.specs.Order.{IsBefore}
 use Rattle.mz_targets.specs.Amounts.{IsAmount}
 use Rattle.mz_targets.specs.declared.zone_targets.ZoneTarget.{ZoneTarget}
 use Rattle.mz_targets.specs.ZoneTargets.{IsZoneTarget}
-use Rattle.mz_project.specs.declared.limits.amounts.Holdings.{Holdings}
+use Rattle.mz_project.specs.declared.limits.amounts.AmountsByFeature.{AmountsByFeature}
 use Rattle.mz_project.specs.declared.region.Region.{Region}
 use Rattle.mz_project.specs.Fits.{FitsRegion}
-use Rattle.mz_project.specs.Holdings.{holdings_of}
+use Rattle.mz_project.specs.AmountsByFeature.{amounts_by_feature}
 use Rattle.mz_project.specs.Limits.{gains_are_above, greatest_gain, is_above, totals_are_above}
-use Rattle.mz_project.specs.Parts.{overall_row, rows_of, zone_row}
+use Rattle.mz_project.specs.Parts.{overall_row, target_rows_of, zone_row}
 use Rattle.mz_project.proofs.AmountLemmas.{few-holders, holders-at, sum_of}
 use Rattle.mz_project.proofs.LevelLemmas.{total-small}
 
@@ -135,24 +135,24 @@ zone-gain region target fit small known =
     le-ltb (10 ^ 18) (greatest_gain region (zone_row region target)) (omega (arith, held, total-small region.targets target.feature small known))
 
 pub gain-above : (region : Region) (feature : ℕ) → feature < length region.targets.features.ids → 10 ^ 18 < greatest_gain region (overall_row region feature) → gains_are_above region ≡ true
-unfolding gains_are_above rows_of
+unfolding gains_are_above target_rows_of
 gain-above region feature known above =
     some_first (λ row. is_above (greatest_gain region row)) (overall_row region) (zone_row region) (length region.targets.features.ids) feature region.targets.zone_targets known (lt-ltb (10 ^ 18) (greatest_gain region (overall_row region feature)) above)
 
 pub gains-within : (region : Region) → FitsRegion region → totals_are_above region.targets ≡ false → ((k : ℕ) → k < length region.targets.features.ids → greatest_gain region (overall_row region k) ≤ 10 ^ 18) → gains_are_above region ≡ false
-unfolding gains_are_above rows_of
+unfolding gains_are_above target_rows_of
 gains-within region fit small within =
     neither (λ row. is_above (greatest_gain region row)) (overall_row region) (zone_row region) (length region.targets.features.ids) region.targets.zone_targets
     (λ k known. le-ltb (10 ^ 18) (greatest_gain region (overall_row region k)) (within k known))
     (All-weaker (IsZoneTarget (length region.area.zones.ids) (length region.targets.features.ids)) (λ target. is_above (greatest_gain region (zone_row region target)) ≡ false) (λ target is. zone-gain region target fit small is.feature_known) region.targets.zone_targets fit.targets.zone_targets.each)
 
 -- the gain that a step of the loop works out
-pub gain-is : (region : Region) (holdings : Holdings) (fractions : List ℕ) (holders : List (ℕ × ℕ)) (features zones feature part gained : ℕ) → FitsRegion region → holdings ≡ holdings_of region.targets → fractions ≡ region.targets.fractions
-    → features ≡ length region.targets.features.ids → zones ≡ length region.area.zones.ids → feature < features → part ≡ part_in fractions zones features feature → holders ≡ get_or holdings.holders feature [] → gained ≡ parts_sum part holders
+pub gain-is : (region : Region) (by_feature : AmountsByFeature) (fractions : List ℕ) (holders : List (ℕ × ℕ)) (features zones feature part gained : ℕ) → FitsRegion region → by_feature ≡ amounts_by_feature region.targets → fractions ≡ region.targets.fractions
+    → features ≡ length region.targets.features.ids → zones ≡ length region.area.zones.ids → feature < features → part ≡ part_in fractions zones features feature → holders ≡ get_or by_feature.holders feature [] → gained ≡ parts_sum part holders
     → gained ≡ greatest_gain region (overall_row region feature)
-gain-is region holdings fractions holders features zones feature part gained fit same fractions_are features_are zones_are known part_is holders_are is =
+gain-is region by_feature fractions holders features zones feature part gained fit same fractions_are features_are zones_are known part_is holders_are is =
     let known_feature : feature < length region.targets.features.ids = omega (arith, known, features_are) in
-    let of_feature = holders_are ∙ holders-at region.targets holdings.holders feature [] (ap (λ h. h.holders) same) known_feature in
+    let of_feature = holders_are ∙ holders-at region.targets by_feature.holders feature [] (ap (λ h. h.holders) same) known_feature in
     let of_zones = part_is ∙ ap (λ fs. part_in fs zones features feature) fractions_are ∙ ap (λ n. part_in region.targets.fractions n features feature) zones_are ∙ ap (λ n. part_in region.targets.fractions (length region.area.zones.ids) n feature) features_are in
     is ∙ ap (λ n. parts_sum n holders) of_zones ∙ ap (parts_sum (part_in region.targets.fractions (length region.area.zones.ids) (length region.targets.features.ids) feature)) of_feature ∙ sym (overall-gain region feature fit)
 
@@ -169,20 +169,20 @@ part-small region fractions features zones feature part fit same features_are zo
     subst (λ n. n ≤ 10 ^ 18) (sym is)
     (greatest_below-le zones (10 ^ 18) (λ zone. slice_index fractions (zone * features + feature)) (λ zone below. small (zone * features + feature) 0 (subst (λ n. zone * features + feature < n) (sym whole) (pair-below zone zones features feature below known))))
 
-pub amounts-small : (region : Region) (holdings : Holdings) (holders : List (ℕ × ℕ)) (features feature : ℕ) → holdings ≡ holdings_of region.targets → totals_are_above region.targets ≡ false → features ≡ length region.targets.features.ids → feature < features
-    → holders ≡ get_or holdings.holders feature [] → All (λ (holder : ℕ × ℕ). holder.1 ≤ 10 ^ 18) holders
+pub amounts-small : (region : Region) (by_feature : AmountsByFeature) (holders : List (ℕ × ℕ)) (features feature : ℕ) → by_feature ≡ amounts_by_feature region.targets → totals_are_above region.targets ≡ false → features ≡ length region.targets.features.ids → feature < features
+    → holders ≡ get_or by_feature.holders feature [] → All (λ (holder : ℕ × ℕ). holder.1 ≤ 10 ^ 18) holders
 unfolding total_of
-amounts-small region holdings holders features feature same small features_are known are k d within =
+amounts-small region by_feature holders features feature same small features_are known are k d within =
     let known_feature : feature < length region.targets.features.ids = omega (arith, known, features_are) in
-    let of_feature = are ∙ holders-at region.targets holdings.holders feature [] (ap (λ h. h.holders) same) known_feature in
+    let of_feature = are ∙ holders-at region.targets by_feature.holders feature [] (ap (λ h. h.holders) same) known_feature in
     let total : sum_of holders ≤ 10 ^ 18 = subst (λ hs. sum_of hs ≤ 10 ^ 18) (sym of_feature) (total-small region.targets feature small known_feature) in
     omega (arith, total, get_or-le-sum_by (λ (holder : ℕ × ℕ). holder.1) holders k d within)
 
-pub holders-few : (region : Region) (holdings : Holdings) (holders : List (ℕ × ℕ)) (features feature : ℕ) → FitsRegion region → holdings ≡ holdings_of region.targets → features ≡ length region.targets.features.ids → feature < features
-    → holders ≡ get_or holdings.holders feature [] → length holders ≤ 5000000
-holders-few region holdings holders features feature fit same features_are known are =
+pub holders-few : (region : Region) (by_feature : AmountsByFeature) (holders : List (ℕ × ℕ)) (features feature : ℕ) → FitsRegion region → by_feature ≡ amounts_by_feature region.targets → features ≡ length region.targets.features.ids → feature < features
+    → holders ≡ get_or by_feature.holders feature [] → length holders ≤ 5000000
+holders-few region by_feature holders features feature fit same features_are known are =
     let known_feature : feature < length region.targets.features.ids = omega (arith, known, features_are) in
-    let of_feature : length holders ≡ length (holders_of region.targets.amounts feature) = ap length (are ∙ holders-at region.targets holdings.holders feature [] (ap (λ h. h.holders) same) known_feature) in
+    let of_feature : length holders ≡ length (holders_of region.targets.amounts feature) = ap length (are ∙ holders-at region.targets by_feature.holders feature [] (ap (λ h. h.holders) same) known_feature) in
     omega (arith, of_feature, few-holders region.targets.amounts feature, fit.targets.amounts.few)
 
 pub gains-more : (region : Region) (feature : ℕ) → ((k : ℕ) → k < feature → greatest_gain region (overall_row region k) ≤ 10 ^ 18) → greatest_gain region (overall_row region feature) ≤ 10 ^ 18

@@ -10,12 +10,14 @@ use Rattle.mz_tables.specs.Table.{Row}
 use Rattle.mz_model.specs.declared.parts.Parts.{Parts}
 use Rattle.mz_project.specs.declared.area.Area.{Area}
 use Rattle.mz_project.specs.declared.fault.Which.{Which}
+use Rattle.mz_project.specs.declared.fault.Which.TheVariants as file
 use Rattle.mz_project.specs.Area.{area_read}
 use Rattle.mz_project.specs.Boundaries.{boundaries_read}
 use Rattle.mz_project.specs.GivenFiles.{file_if_given, files_among, area_names, target_names, set_names, boundary_names, given_files}
+use Rattle.mz_project.specs.InputFiles.{columns_of, file_named}
 use Rattle.mz_project.specs.Project.{project_read}
 use Rattle.mz_project.specs.ReadAs.{IfTold, IsGiven, ReadEach}
-use Rattle.mz_project.specs.Reads.{Reads, Outcome, file_read, if_given, read_behind, rows_read, table_read, then_read}
+use Rattle.mz_project.specs.Reads.{Reads, Outcome, file_read, read_behind, rows_or_default, rows_read, table_by_name, table_given, table_read, then_read}
 use Rattle.mz_project.specs.Reads.Outcome.{Missing, Refused, Given}
 use Rattle.mz_project.specs.Region.{region_read}
 use Rattle.mz_project.specs.Sets.{allowed_read}
@@ -48,44 +50,51 @@ rows_give files folder name which wants reader =
     then_gives (file_in folder name ∷ []) [] (table_read files (file_in folder name) which wants) _
     (then_gives (file_in folder name ∷ []) [] (file_read files (file_in folder name) which) _ (λ bytes is. refl) (λ bytes x is. refl)) (λ rows x is. refl)
 
-if_gives : {X : Type 0} (folder : List ℕ) (name : Option (List ℕ)) (default : X) (read : List ℕ → Reads X) → ((name : List ℕ) → GivesBy (file_in folder name ∷ []) (read name)) → GivesBy (file_if_given folder name) (if_given name default read)
-if_gives folder None default read h = λ x is. refl
-if_gives folder (Some name) default read h = h name
+named_gives : (files : Files) (folder : List ℕ) (name : Option (List ℕ)) (which : Which) → GivesBy (file_if_given folder name) (table_by_name files folder name which)
+named_gives files folder None which = λ x is. refl
+named_gives files folder (Some name) which =
+    then_gives (file_in folder name ∷ []) [] (table_read files (file_in folder name) which (columns_of which)) _
+    (then_gives (file_in folder name ∷ []) [] (file_read files (file_in folder name) which) _ (λ bytes is. refl) (λ bytes x is. refl)) (λ rows x is. refl)
+
+given_gives : {X : Type 0} (params : Params) (files : Files) (which : Which) (default : X) (reader : List Row → Result X RowFault) → GivesBy (file_if_given params.input_dir (file_named params which)) (rows_or_default params which default reader files)
+given_gives params files which default reader x is =
+    then_gives (file_if_given params.input_dir (file_named params which)) [] (table_given params which files) _ (named_gives files params.input_dir (file_named params which) which) (λ table y given. refl) x is
+    ∙ append-nil (file_if_given params.input_dir (file_named params which))
 
 -- the files of each part
 area_gives : (params : Params) (files : Files) → GivesBy (files_among params.input_dir (area_names params)) (area_read params files)
 unfolding area_read
 area_gives params files =
     let given = file_if_given params.input_dir in
-    then_gives (given params.zones) _ _ _ (if_gives params.input_dir params.zones _ _ (λ name. rows_give files params.input_dir name _ _ _)) (λ zones.
+    then_gives (given params.zones) _ _ _ (given_gives params files file.Zones _ _) (λ zones.
     then_gives [] _ _ _ (λ x is. refl) (λ available.
-    then_gives (given params.costs) _ _ _ (if_gives params.input_dir params.costs _ _ (λ name. rows_give files params.input_dir name _ _ _)) (λ costs.
+    then_gives (given params.costs) _ _ _ (given_gives params files file.Costs _ _) (λ costs.
     then_gives (given (Some params.units)) _ _ _ (rows_give files params.input_dir params.units _ _ _) (λ units.
-    then_gives (given params.zone_costs) [] _ _ (if_gives params.input_dir params.zone_costs _ _ (λ name. rows_give files params.input_dir name _ _ _)) (λ multipliers x is. refl)))))
+    then_gives (given params.zone_costs) [] _ _ (given_gives params files file.ZoneCosts _ _) (λ multipliers x is. refl)))))
 
 targets_give : (params : Params) (area : Area) (files : Files) → GivesBy (files_among params.input_dir (target_names params)) (targets_read params area files)
 unfolding targets_read
 targets_give params area files =
     let given = file_if_given params.input_dir in
-    then_gives (given params.features) _ _ _ (if_gives params.input_dir params.features _ _ (λ name. rows_give files params.input_dir name _ _ _)) (λ features.
-    then_gives (given params.amounts) _ _ _ (if_gives params.input_dir params.amounts _ _ (λ name. rows_give files params.input_dir name _ _ _)) (λ amounts.
-    then_gives (given params.contribs) _ _ _ (if_gives params.input_dir params.contribs _ _ (λ name. rows_give files params.input_dir name _ _ _)) (λ fractions.
-    then_gives (given params.zone_targets) [] _ _ (if_gives params.input_dir params.zone_targets _ _ (λ name. rows_give files params.input_dir name _ _ _)) (λ zone_targets x is. refl))))
+    then_gives (given params.features) _ _ _ (given_gives params files file.Features _ _) (λ features.
+    then_gives (given params.amounts) _ _ _ (given_gives params files file.Amounts _ _) (λ amounts.
+    then_gives (given params.contribs) _ _ _ (given_gives params files file.Contribs _ _) (λ fractions.
+    then_gives (given params.zone_targets) [] _ _ (given_gives params files file.ZoneTargets _ _) (λ zone_targets x is. refl))))
 
 sets_give : (params : Params) (area : Area) (files : Files) → GivesBy (files_among params.input_dir (set_names params)) (allowed_read params area files)
 unfolding allowed_read
 sets_give params area files x is =
     let given = file_if_given params.input_dir in
-    then_gives (given params.zone_sets) (given params.locks) _ _ (if_gives params.input_dir params.zone_sets _ _ (λ name. rows_give files params.input_dir name _ _ _)) (λ sets.
-    if_gives params.input_dir params.locks _ _ (λ name. rows_give files params.input_dir name _ _ _)) x is
+    then_gives (given params.zone_sets) (given params.locks) _ _ (given_gives params files file.ZoneSets _ _) (λ sets.
+    given_gives params files file.Locks _ _) x is
     ∙ ap (λ (ns : List (List ℕ)). given params.zone_sets ++ ns) (sym (append-nil (given params.locks)))
 
 boundaries_give : (params : Params) (area : Area) (files : Files) → GivesBy (files_among params.input_dir (boundary_names params)) (boundaries_read params area files)
 unfolding boundaries_read
 boundaries_give params area files =
     let given = file_if_given params.input_dir in
-    then_gives (given params.bounds) _ _ _ (if_gives params.input_dir params.bounds _ _ (λ name. rows_give files params.input_dir name _ _ _)) (λ bounds.
-    then_gives (given params.zone_bounds) [] _ _ (if_gives params.input_dir params.zone_bounds _ _ (λ name. rows_give files params.input_dir name _ _ _)) (λ costs x is. refl))
+    then_gives (given params.bounds) _ _ _ (given_gives params files file.Bounds _ _) (λ bounds.
+    then_gives (given params.zone_bounds) [] _ _ (given_gives params files file.ZoneBounds _ _) (λ costs x is. refl))
 
 -- the parts one after another
 files_among-append : (folder : List ℕ) (names more : List (Option (List ℕ))) → files_among folder (names ++ more) ≡ files_among folder names ++ files_among folder more

@@ -12,9 +12,9 @@ use Rattle.mz_model.proofs.AmountLaws.{AllPairs-head, AllPairs-tail, holders_of-
 use Rattle.mz_num.proofs.PlaceLaws.{get_or-list_below, length-list_below, values_at-All}
 use Rattle.mz_num.specs.Order.{IsBefore}
 use Rattle.mz_targets.specs.Amounts.{IsAmount}
-use Rattle.mz_project.specs.declared.limits.amounts.Holdings.{Holdings}
+use Rattle.mz_project.specs.declared.limits.amounts.AmountsByFeature.{AmountsByFeature}
 use Rattle.mz_project.specs.declared.targets.Targets.{Targets}
-use Rattle.mz_project.specs.Holdings.{holdings_of}
+use Rattle.mz_project.specs.AmountsByFeature.{amounts_by_feature}
 
 -- what holds of each amount holds of each holder
 pub holders-All : (P : ℕ × ℕ → Type 0) (rows : List (ℕ × ℕ × ℕ)) (feature : ℕ) → All (λ row. P (row.0, row.2)) rows → All P (holders_of rows feature)
@@ -58,11 +58,11 @@ places-rise holders rise k within =
     omega (arith, one, two, rises)
 
 -- the holders of a feature, as a list of its own
-pub in_holders : (targets : Targets) (holdings : Holdings) (feature : ℕ) → holdings ≡ holdings_of targets → feature < length targets.features.ids → feature < length holdings.holders
-in_holders targets holdings feature are known = subst (λ (h : Holdings). feature < length h.holders) (sym are) (subst (λ n. feature < n) (sym (length-list_below (length targets.features.ids) (holders_of targets.amounts))) known)
+pub in_holders : (targets : Targets) (by_feature : AmountsByFeature) (feature : ℕ) → by_feature ≡ amounts_by_feature targets → feature < length targets.features.ids → feature < length by_feature.holders
+in_holders targets by_feature feature are known = subst (λ (h : AmountsByFeature). feature < length h.holders) (sym are) (subst (λ n. feature < n) (sym (length-list_below (length targets.features.ids) (holders_of targets.amounts))) known)
 
-pub holders-are : (targets : Targets) (holdings : Holdings) (holders : List (ℕ × ℕ)) (feature : ℕ) → holdings ≡ holdings_of targets → feature < length targets.features.ids → holders ≡ get_or holdings.holders feature [] → holders ≡ holders_of targets.amounts feature
-holders-are targets holdings holders feature are known is = is ∙ ap (λ (h : Holdings). get_or h.holders feature []) are ∙ get_or-list_below (length targets.features.ids) feature (holders_of targets.amounts) [] known
+pub holders-are : (targets : Targets) (by_feature : AmountsByFeature) (holders : List (ℕ × ℕ)) (feature : ℕ) → by_feature ≡ amounts_by_feature targets → feature < length targets.features.ids → holders ≡ get_or by_feature.holders feature [] → holders ≡ holders_of targets.amounts feature
+holders-are targets by_feature holders feature are known is = is ∙ ap (λ (h : AmountsByFeature). get_or h.holders feature []) are ∙ get_or-list_below (length targets.features.ids) feature (holders_of targets.amounts) [] known
 
 pub holders-in_range : (rows : List (ℕ × ℕ × ℕ)) (holders : List (ℕ × ℕ)) (units features most feature count : ℕ) → holders ≡ holders_of rows feature → units ≡ count → All (IsAmount units features most) rows → All (λ (unit : ℕ × ℕ). unit.0 < count) holders
 holders-in_range rows holders units features most feature count are same each =

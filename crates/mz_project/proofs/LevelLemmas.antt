@@ -11,24 +11,24 @@ use Rattle.mz_targets.specs.declared.zone_targets.ZoneTarget.{ZoneTarget}
 use Rattle.mz_targets.specs.Level.{level}
 use Rattle.mz_targets.specs.ZoneTargets.{IsZoneTarget}
 use Rattle.mz_project.specs.declared.targets.Targets.{Targets}
-use Rattle.mz_project.specs.Holdings.{holdings_of}
+use Rattle.mz_project.specs.AmountsByFeature.{amounts_by_feature}
 use Rattle.mz_project.specs.Limits.{is_above, levels_are_above, totals_are_above}
 use Rattle.mz_project.specs.Parts.{feature_at, levels_of, no_feature, overall_level, zone_level}
 use Rattle.mz_project.proofs.AboveLemmas.{none_above, some_above}
 use Rattle.mz_project.proofs.BelowLemmas.{within-at}
 
 -- totals
-pub in_totals : (targets : Targets) (totals : List ℕ) (feature : ℕ) → totals ≡ (holdings_of targets).totals → feature < length targets.features.ids → feature < length totals
+pub in_totals : (targets : Targets) (totals : List ℕ) (feature : ℕ) → totals ≡ (amounts_by_feature targets).totals → feature < length targets.features.ids → feature < length totals
 in_totals targets totals feature are known = subst (λ n. feature < n) (sym (ap length are ∙ length-list_below (length targets.features.ids) (total_of targets.amounts))) known
 
-pub total-is : (targets : Targets) (totals : List ℕ) (feature : ℕ) → totals ≡ (holdings_of targets).totals → feature < length targets.features.ids → get_or totals feature 0 ≡ total_of targets.amounts feature
+pub total-is : (targets : Targets) (totals : List ℕ) (feature : ℕ) → totals ≡ (amounts_by_feature targets).totals → feature < length targets.features.ids → get_or totals feature 0 ≡ total_of targets.amounts feature
 total-is targets totals feature are known = ap (λ ts. get_or ts feature 0) are ∙ get_or-list_below (length targets.features.ids) feature (total_of targets.amounts) 0 known
 
 pub total-small : (targets : Targets) (feature : ℕ) → totals_are_above targets ≡ false → feature < length targets.features.ids → total_of targets.amounts feature ≤ 10 ^ 18
 unfolding totals_are_above
 total-small targets feature small known = within-at (length targets.features.ids) feature (total_of targets.amounts) small known
 
-pub total-le : (targets : Targets) (totals : List ℕ) (feature : ℕ) → totals ≡ (holdings_of targets).totals → totals_are_above targets ≡ false → feature < length targets.features.ids → get_or totals feature 0 ≤ 10 ^ 18
+pub total-le : (targets : Targets) (totals : List ℕ) (feature : ℕ) → totals ≡ (amounts_by_feature targets).totals → totals_are_above targets ≡ false → feature < length targets.features.ids → get_or totals feature 0 ≤ 10 ^ 18
 total-le targets totals feature are small known = subst (λ n. n ≤ 10 ^ 18) (sym (total-is targets totals feature are known)) (total-small targets feature small known)
 
 -- features
@@ -48,13 +48,13 @@ more-behind first part all items items' last made whole is so_far more =
 abbrev pub asked_of : Feature → ℕ → ℕ
 asked_of asked total = level (if nat_lt 0 asked.prop then asked.prop else asked.target) total (nat_lt 0 asked.prop)
 
-pub overall-more : (targets : Targets) (rows : List Feature) (totals first items items' : List ℕ) (feature made : ℕ) → rows ≡ targets.features.rows → totals ≡ (holdings_of targets).totals → feature < length targets.features.ids
+pub overall-more : (targets : Targets) (rows : List Feature) (totals first items items' : List ℕ) (feature made : ℕ) → rows ≡ targets.features.rows → totals ≡ (amounts_by_feature targets).totals → feature < length targets.features.ids
     → made ≡ asked_of (get_or rows feature no_feature) (get_or totals feature 0) → items ≡ first ++ list_below feature (overall_level targets) → items' ≡ items ++ made ∷ [] → items' ≡ first ++ list_below (feature + 1) (overall_level targets)
 overall-more targets rows totals first items items' feature made rows_are totals_are known is so_far more =
     more-behind first (list_below feature (overall_level targets)) (list_below (feature + 1) (overall_level targets)) items items' (overall_level targets feature) made (list_below-more feature (overall_level targets))
     (is ∙ ap (λ fs. asked_of (get_or fs feature no_feature) (get_or totals feature 0)) rows_are ∙ ap (asked_of (feature_at targets feature)) (total-is targets totals feature totals_are known)) so_far more
 
-pub zone-more : (targets : Targets) (rows : List ZoneTarget) (totals first items items' : List ℕ) (k made : ℕ) (d : ZoneTarget) → rows ≡ targets.zone_targets → totals ≡ (holdings_of targets).totals → k < length rows
+pub zone-more : (targets : Targets) (rows : List ZoneTarget) (totals first items items' : List ℕ) (k made : ℕ) (d : ZoneTarget) → rows ≡ targets.zone_targets → totals ≡ (amounts_by_feature targets).totals → k < length rows
     → (get_or rows k d).feature < length targets.features.ids → made ≡ level (get_or rows k d).value (get_or totals (get_or rows k d).feature 0) ((get_or rows k d).kind == 1)
     → items ≡ first ++ map (zone_level targets) (take k targets.zone_targets) → items' ≡ items ++ made ∷ [] → items' ≡ first ++ map (zone_level targets) (take (k + 1) targets.zone_targets)
 zone-more targets rows totals first items items' k made d rows_are totals_are within known is so_far more =

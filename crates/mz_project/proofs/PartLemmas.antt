@@ -25,7 +25,7 @@ use Rattle.mz_project.specs.declared.region.Region.{Region}
 use Rattle.mz_project.specs.Fits.{FitsRegion}
 use Rattle.mz_project.specs.Limits.{costs_are_above, gains_are_above, greatest_gain, greatest_term, heavy_row, is_above, lengths_are_above, levels_are_above, rates_are_above, terms_are_above}
 use Rattle.mz_project.specs.Numbers.{AreCostsWithin, AreTargetsWithin}
-use Rattle.mz_project.specs.Parts.{levels_of, overall_level, overall_row, parts_of, rates_of, rows_of, term_of, terms_of, zone_row}
+use Rattle.mz_project.specs.Parts.{levels_of, overall_level, overall_row, parts_of, rates_of, target_rows_of, term_of, terms_of, zone_row}
 use Rattle.mz_project.proofs.BelowLemmas.{left_false, right_false}
 use Rattle.mz_project.proofs.CostLemmas.{within_limit}
 use Rattle.mz_project.proofs.LevelLemmas.{total-small}
@@ -61,17 +61,17 @@ set-is : (zones : ℕ) (allowed : List ℕ) (unit : ℕ) → All (IsZoneSet zone
 set-is zones allowed unit sets within = record { some_zone = (sets unit 0 within).some_zone; in_range = (sets unit 0 within).in_range }
 
 -- target rows
-overall-at : (region : Region) (row : ℕ) → row < length region.targets.features.ids → get_or (rows_of region) row no_target ≡ overall_row region row
-unfolding rows_of
+overall-at : (region : Region) (row : ℕ) → row < length region.targets.features.ids → get_or (target_rows_of region) row no_target ≡ overall_row region row
+unfolding target_rows_of
 overall-at region row within = front-at (length region.targets.features.ids) row (overall_row region) (zone_row region) region.targets.zone_targets no_target within
 
 -- a zone target that stands for one past the last
 no_zone_target : ZoneTarget
 no_zone_target = record { zone = 0; feature = 0; value = 0; kind = 0 }
 
-zone-at : (region : Region) (row : ℕ) → length region.targets.features.ids ≤ row → row < length (rows_of region)
-    → get_or (rows_of region) row no_target ≡ zone_row region (get_or region.targets.zone_targets (row - length region.targets.features.ids) no_zone_target)
-unfolding rows_of
+zone-at : (region : Region) (row : ℕ) → length region.targets.features.ids ≤ row → row < length (target_rows_of region)
+    → get_or (target_rows_of region) row no_target ≡ zone_row region (get_or region.targets.zone_targets (row - length region.targets.features.ids) no_zone_target)
+unfolding target_rows_of
 zone-at region row above within =
     back-at (length region.targets.features.ids) row (overall_row region) (zone_row region) region.targets.zone_targets no_target no_zone_target above (let whole = length-rows region in omega (arith, above, within, whole))
 
@@ -79,7 +79,7 @@ overall-shape : (params : Params) (region : Region) (row : ℕ) → row < length
 unfolding parts_of
 overall-shape params region row within = subst (IsOverallRow row) (sym (overall-at region row within)) (record { own = refl; everywhere = refl })
 
-zone-shape : (params : Params) (region : Region) (row : ℕ) → FitsRegion region → length region.targets.features.ids ≤ row → row < length (rows_of region)
+zone-shape : (params : Params) (region : Region) (row : ℕ) → FitsRegion region → length region.targets.features.ids ≤ row → row < length (target_rows_of region)
     → IsZoneRow (length region.area.zones.ids) (length region.targets.features.ids) (target_at (parts_of params region) row)
 unfolding parts_of
 zone-shape params region row fit above within =
@@ -166,17 +166,17 @@ length-is : (params : Params) (region : Region) (len : ℕ) → len ≤ 10 ^ 18 
 unfolding parts_of greatest_rate
 length-is params region len small term = record { small = small; term = term }
 
-gains-within : (region : Region) → gains_are_above region ≡ false → All (λ row. greatest_gain region row ≤ 10 ^ 18) (rows_of region)
+gains-within : (region : Region) → gains_are_above region ≡ false → All (λ row. greatest_gain region row ≤ 10 ^ 18) (target_rows_of region)
 unfolding gains_are_above
-gains-within region none = all_within (greatest_gain region) (rows_of region) (none_passes (λ row. is_above (greatest_gain region row)) (rows_of region) none)
+gains-within region none = all_within (greatest_gain region) (target_rows_of region) (none_passes (λ row. is_above (greatest_gain region row)) (target_rows_of region) none)
 
-gain-within : (params : Params) (region : Region) (row : ℕ) → gains_are_above region ≡ false → row < length (rows_of region)
+gain-within : (params : Params) (region : Region) (row : ℕ) → gains_are_above region ≡ false → row < length (target_rows_of region)
     → sum_below (length region.area.units.ids) (λ unit. greatest_below (length region.area.zones.ids) (gain_of (parts_of params region) row unit)) ≤ 10 ^ 18
 unfolding parts_of gain_of gain_from amount_for
 gain-within params region row none within = gains-within region none row no_target within
 
-levels-are : (region : Region) → levels_of region.targets ≡ map (λ (row : Target). row.level) (rows_of region)
-unfolding levels_of rows_of
+levels-are : (region : Region) → levels_of region.targets ≡ map (λ (row : Target). row.level) (target_rows_of region)
+unfolding levels_of target_rows_of
 levels-are region =
     let features = length region.targets.features.ids in
     let level_of_row : Target → ℕ = λ row. row.level in
@@ -188,14 +188,14 @@ levels-within : (region : Region) → levels_are_above region.targets ≡ false 
 unfolding levels_are_above
 levels-within region none = all_within (λ level. level) (levels_of region.targets) (none_passes is_above (levels_of region.targets) none)
 
-level-within : (region : Region) (row : ℕ) → levels_are_above region.targets ≡ false → row < length (rows_of region) → (get_or (rows_of region) row no_target).level ≤ 10 ^ 18
+level-within : (region : Region) (row : ℕ) → levels_are_above region.targets ≡ false → row < length (target_rows_of region) → (get_or (target_rows_of region) row no_target).level ≤ 10 ^ 18
 level-within region row none within =
-    subst (λ n. n ≤ 10 ^ 18) (ap (λ levels. get_or levels row 0) (levels-are region) ∙ get_or-map (λ (r : Target). r.level) (rows_of region) row no_target 0 within)
-    (levels-within region none row 0 (subst (λ n. row < n) (sym (ap length (levels-are region) ∙ length-map (rows_of region) (λ (r : Target). r.level))) within))
+    subst (λ n. n ≤ 10 ^ 18) (ap (λ levels. get_or levels row 0) (levels-are region) ∙ get_or-map (λ (r : Target). r.level) (target_rows_of region) row no_target 0 within)
+    (levels-within region none row 0 (subst (λ n. row < n) (sym (ap length (levels-are region) ∙ length-map (target_rows_of region) (λ (r : Target). r.level))) within))
 
-weight-within : (region : Region) (row : ℕ) → heavy_row region ≡ None → row < length (rows_of region) → (get_or (rows_of region) row no_target).weight ≤ 10 ^ 18
+weight-within : (region : Region) (row : ℕ) → heavy_row region ≡ None → row < length (target_rows_of region) → (get_or (target_rows_of region) row no_target).weight ≤ 10 ^ 18
 unfolding heavy_row
-weight-within region row none within = all_within (λ (r : Target). r.weight) (rows_of region) (none_found (λ r. is_above r.weight) (rows_of region) none) row no_target within
+weight-within region row none within = all_within (λ (r : Target). r.weight) (target_rows_of region) (none_found (λ r. is_above r.weight) (target_rows_of region) none) row no_target within
 
 parts-within : (params : Params) (region : Region) → AreCostsWithin params region → AreTargetsWithin region → IsWithinLimits (parts_of params region)
 unfolding parts_of

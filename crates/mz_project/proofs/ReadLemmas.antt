@@ -12,6 +12,7 @@ use Rattle.mz_shelf.specs.declared.shelf.ShelfErr.{ShelfErr}
 use Rattle.mz_shelf.specs.declared.shelf.ShelfErr.TheVariants.{Failed}
 use Rattle.mz_shelf.proofs.CountLemmas.{OneMiss-from, OneOver-from}
 use Rattle.mz_params.specs.Folder.{file_in}
+use Rattle.mz_params.specs.declared.params.Params.{Params}
 use Rattle.mz_tables.specs.declared.fault.RowFault.{RowFault}
 use Rattle.mz_tables.specs.declared.wants.Want.{Want}
 use Rattle.mz_tables.specs.Table.{Row as TableRow}
@@ -20,8 +21,9 @@ use Rattle.mz_project.specs.declared.fault.InputFault.{InputFault}
 use Rattle.mz_project.specs.declared.fault.InputFault.TheVariants.{TooLong, Param, Table, Row, Sum, Weight}
 use Rattle.mz_project.specs.declared.fault.ReadFault.{ReadFault}
 use Rattle.mz_project.specs.declared.fault.ReadFault.TheVariants.{Shelf, Absent, Input, NoMemory}
+use Rattle.mz_project.specs.InputFiles.{columns_of, file_named}
 use Rattle.mz_project.specs.ReadAs.{IfTold, OnlyRead, ReadEach, ReadFirst, ReadBefore, RoseForFault, IsGiven, IsRefused, IsMissing, IsUnread, IsStopped, ReadAs, TakenAs}
-use Rattle.mz_project.specs.Reads.{Reads, Outcome, bytes_of, file_read, if_given, of_rows, outcome_of, read_behind, rows_read, table_read, taken, then_read}
+use Rattle.mz_project.specs.Reads.{Reads, Outcome, bytes_of, file_read, made_or, of_rows, outcome_of, read_behind, rows_or_default, rows_read, table_by_name, table_given, table_read, taken, then_read}
 use Rattle.mz_project.specs.Reads.Outcome.{Missing, Refused, Given}
 
 -- names that were read, one list after another
@@ -300,20 +302,37 @@ file_long name which {old} {new} long = record {
   refused = IfSome_then old.contents.files long.told (λ files is. long_bytes name which (get files name) is);
 }
 
--- a file that is given
-pub given_file : {X : Type 0} (name : Option (List ℕ)) (found : List ℕ) (default : X) (read : List ℕ → Files → Reads X) (old new : State) (answer : Result X ReadFault) → name ≡ Some found → ReadAs (read found) old new answer
-    → ReadAs (λ files. if_given name default (λ n. read n files)) old new answer
-given_file name found default read old new answer is h = subst (λ (o : Option (List ℕ)). ReadAs (λ files. if_given o default (λ n. read n files)) old new answer) (sym is) h
-
 -- what a reader makes of the rows of a table that was read
 pub rows_taken : {X : Type 0} (folder name : List ℕ) (which : Which) (wants : List Want) (reader : List TableRow → Result X RowFault) (table : List TableRow) (old new : State) (answer : Result X ReadFault)
     → IsGiven (λ files. table_read files (file_in folder name) which wants) old new table → TakenAs (of_rows which (reader table)) answer → ReadAs (λ files. rows_read files folder name which wants reader) old new answer
 rows_taken folder name which wants reader table old new answer given is = read_and_taken (λ files. table_read files (file_in folder name) which wants) (λ rows. of_rows which (reader rows)) table old new answer given is
 
--- the same of a file that is given, under names of its own
-pub given_rows : {X : Type 0} (folder dir found file : List ℕ) (name : Option (List ℕ)) (which : Which) (columns wants : List Want) (default : X) (reader : List TableRow → Result X RowFault) (table : List TableRow) (old new : State) (answer : Result X ReadFault)
-    → dir ≡ folder → file ≡ found → wants ≡ columns → name ≡ Some found → IsGiven (λ files. table_read files (file_in dir file) which wants) old new table → TakenAs (of_rows which (reader table)) answer
-    → ReadAs (λ files. if_given name default (λ n. rows_read files folder n which columns reader)) old new answer
-given_rows folder dir found file name which columns wants default reader table old new answer same_dir same_file same_wants is given made =
-    given_file name found default (λ n files. rows_read files folder n which columns reader) old new answer is
-    (rows_taken folder found which columns reader table old new answer (rw (← same_dir, ← same_file, ← same_wants) given) made)
+-- the table of a file that the parameters don't give, and of one that they give, under names of its own
+pub no_table : (params : Params) (which : Which) (st : State) → None ≡ file_named params which → IsGiven (table_given params which) st st None
+no_table params which st is = subst (λ (o : Option (List ℕ)). IsGiven (λ files. table_by_name files params.input_dir o which) st st None) is (by_default None None st refl)
+
+abbrev pub IsSameRead : Params → Which → List ℕ → List ℕ → List Want → List ℕ → Type 0
+IsSameRead params which dir file wants name = (Some name ≡ file_named params which) × (dir ≡ params.input_dir) × (file ≡ name) × (wants ≡ columns_of which)
+
+pub some_table : (params : Params) (which : Which) (dir file name : List ℕ) (wants : List Want) (table : List TableRow) (old new : State) → IsSameRead params which dir file wants name
+    → IsGiven (λ files. table_read files (file_in dir file) which wants) old new table → IsGiven (table_given params which) old new (Some table)
+some_table params which dir file name wants table old new same given =
+    let there : IsGiven (λ files. table_read files (file_in params.input_dir name) which (columns_of which)) old new table = rw (← same.1, ← same.2, ← same.3) given in
+    subst (λ (o : Option (List ℕ)). IsGiven (λ files. table_by_name files params.input_dir o which) old new (Some table)) same.0
+    (read_and_taken (λ files. table_read files (file_in params.input_dir name) which (columns_of which)) (λ rows. Ok (Some rows)) table old new (Ok (Some table)) there refl)
+
+pub stopped_table : (params : Params) (which : Which) (dir file name : List ℕ) (wants : List Want) (old new : State) (fault : ReadFault) → IsSameRead params which dir file wants name
+    → IsStopped (λ files. table_read files (file_in dir file) which wants) old new fault → IsStopped (table_given params which) old new fault
+stopped_table params which dir file name wants old new fault same stopped =
+    let there : IsStopped (λ files. table_read files (file_in params.input_dir name) which (columns_of which)) old new fault = rw (← same.1, ← same.2, ← same.3) stopped in
+    subst (λ (o : Option (List ℕ)). IsStopped (λ files. table_by_name files params.input_dir o which) old new fault) same.0
+    (stops (λ files. table_read files (file_in params.input_dir name) which (columns_of which)) (λ rows files. taken (Ok (Some rows))) old new fault there)
+
+-- what a reader makes of such a table
+pub made_stop : {X : Type 0} (params : Params) (which : Which) (default : X) (reader : List TableRow → Result X RowFault) (old new : State) (fault : ReadFault)
+    → IsStopped (table_given params which) old new fault → IsStopped (rows_or_default params which default reader) old new fault
+made_stop params which default reader old new fault stopped = stops (table_given params which) (λ table files. taken (made_or which default reader table)) old new fault stopped
+
+pub made_read : {X : Type 0} (params : Params) (which : Which) (default : X) (reader : List TableRow → Result X RowFault) (table : Option (List TableRow)) (old new : State) (answer : Result X ReadFault)
+    → IsGiven (table_given params which) old new table → TakenAs (made_or which default reader table) answer → ReadAs (rows_or_default params which default reader) old new answer
+made_read params which default reader table old new answer given made = read_and_taken (table_given params which) (made_or which default reader) table old new answer given made

@@ -1,26 +1,29 @@
 -- The target rows with their weights, and the first one that is too heavy.
-use Rattle.std.proofs.Common.{◌≡◌, ℕ, suc, ◌+◌, ◌-◌, ◌*◌, ◌^◌, ◌<◌, ◌≤◌, Bool, List, [], ◌∷◌, ◌++◌, length, map, get_or, take, drop, Option, Some, None, add-one, refl, sym, ap, subst, ◌∙◌, arith}
+use Rattle.std.proofs.Common.{◌≡◌, ℕ, suc, ◌+◌, ◌-◌, ◌*◌, ◌^◌, ◌<◌, ◌≤◌, Bool, List, [], ◌∷◌, ◌++◌, length, map, get_or, take, drop, Option, Some, None, add-one, inl, inr, refl, sym, ap, subst, ◌∙◌, arith}
 use Rattle.std.specs.Prelude.{slice_index, slice_get}
 use Rattle.std.specs.List.{find}
 use Rattle.std.specs.Option.{option_or}
 use Rattle.std.proofs.Math.Seq.{drop-cons, take-suc}
-use Rattle.std.proofs.lemmas.Bool.{cond-false, cond-true, le-ltb, lt-ltb}
+use Rattle.std.proofs.lemmas.Bool.{cases_lt, cond-false, cond-true, le-ltb, lt-ltb}
 use Rattle.std.proofs.lemmas.List.{get_or-append_right, get_or_append_left, get_or-map, length-append, length-map, take-append-drop, take_all}
 use Rattle.std.proofs.lemmas.List.Folds.{find-append}
-use Rattle.std.proofs.lemmas.Option.{get_or_from_slice_get}
+use Rattle.std.proofs.lemmas.Option.{get_or_from_slice_get, slice_get_read}
 use Rattle.mz_model.specs.declared.parts.Target.{Target}
 use Rattle.mz_model.specs.Amounts.{holders_of}
 use Rattle.mz_model.specs.Parts.{no_target}
 use Rattle.mz_num.specs.Places.{list_below}
 use Rattle.mz_num.proofs.PlaceLaws.{get_or-list_below, length-list_below}
 use Rattle.mz_penalty.specs.Base.{base_of}
+use Rattle.mz_penalty.specs.Order.{HeldAmount}
+use Rattle.mz_penalty.specs.Ordered.{base_until}
 use Rattle.mz_penalty.specs.Weight.{weight_of}
 use Rattle.mz_targets.specs.declared.features.Feature.{Feature}
 use Rattle.mz_targets.specs.declared.zone_targets.ZoneTarget.{ZoneTarget}
 use Rattle.mz_project.specs.declared.region.Region.{Region}
 use Rattle.mz_project.specs.declared.targets.Targets.{Targets}
+use Rattle.mz_project.specs.Bases.{AreBases}
 use Rattle.mz_project.specs.Limits.{heavy_row, id_of_row, is_above}
-use Rattle.mz_project.specs.Parts.{feature_at, levels_of, no_feature, overall_level, overall_row, raw_costs_of, row_for, rows_of, weight_for, zone_level, zone_row}
+use Rattle.mz_project.specs.Parts.{bases_for, feature_at, levels_of, no_feature, overall_level, overall_row, raw_costs_of, row_for, target_rows_of, weight_for, zone_level, zone_row}
 
 -- one list of what places below n give, and of what things give
 pub front-at : {X Y : Type 0} (n k : ℕ) (f : ℕ → X) (g : Y → X) (ys : List Y) (d : X) → k < n → get_or (list_below n f ++ map g ys) k d ≡ f k
@@ -39,14 +42,14 @@ length-levels : (targets : Targets) → length (levels_of targets) ≡ length ta
 unfolding levels_of
 length-levels targets = length-both (length targets.features.ids) (overall_level targets) (zone_level targets) targets.zone_targets
 
-pub length-rows : (region : Region) → length (rows_of region) ≡ length region.targets.features.ids + length region.targets.zone_targets
-unfolding rows_of
+pub length-rows : (region : Region) → length (target_rows_of region) ≡ length region.targets.features.ids + length region.targets.zone_targets
+unfolding target_rows_of
 length-rows region = length-both (length region.targets.features.ids) (overall_row region) (zone_row region) region.targets.zone_targets
 
 -- the row at a place
 pub overall-at : (region : Region) (row features : ℕ) → features ≡ length region.targets.features.rows → length region.targets.features.rows ≡ length region.targets.features.ids → row < features
-    → row_for region row None (slice_index (levels_of region.targets) row) ≡ get_or (rows_of region) row no_target
-unfolding levels_of rows_of
+    → row_for region row None (slice_index (levels_of region.targets) row) ≡ get_or (target_rows_of region) row no_target
+unfolding levels_of target_rows_of
 overall-at region row features count all below =
     let known : row < length region.targets.features.ids = subst (λ n. row < n) (count ∙ all) below in
     ap (row_for region row None) (front-at (length region.targets.features.ids) row (overall_level region.targets) (zone_level region.targets) region.targets.zone_targets 0 known)
@@ -65,8 +68,8 @@ pub zone-offset : (targets : Targets) (row features : ℕ) → features ≡ leng
 zone-offset targets row features count all past within few = let inside = zone-within targets targets.zone_targets row features refl count all past within in omega (arith, inside, few)
 
 pub zone-at : (region : Region) (items : List ZoneTarget) (row features : ℕ) (d : ZoneTarget) → items ≡ region.targets.zone_targets → features ≡ length region.targets.features.rows → length region.targets.features.rows ≡ length region.targets.features.ids → features ≤ row
-    → row < length (levels_of region.targets) → row_for region (get_or items (row - features) d).feature (Some (get_or items (row - features) d).zone) (slice_index (levels_of region.targets) row) ≡ get_or (rows_of region) row no_target
-unfolding levels_of rows_of
+    → row < length (levels_of region.targets) → row_for region (get_or items (row - features) d).feature (Some (get_or items (row - features) d).zone) (slice_index (levels_of region.targets) row) ≡ get_or (target_rows_of region) row no_target
+unfolding levels_of target_rows_of
 zone-at region items row features d are count all past within =
     let ids : features ≡ length region.targets.features.ids = count ∙ all in
     let behind : length region.targets.features.ids ≤ row = subst (λ n. n ≤ row) ids past in
@@ -77,12 +80,40 @@ zone-at region items row features d are count all past within =
     (back-at (length region.targets.features.ids) row (overall_level region.targets) (zone_level region.targets) region.targets.zone_targets 0 d behind inside)
     ∙ sym (back-at (length region.targets.features.ids) row (overall_row region) (zone_row region) region.targets.zone_targets no_target d behind inside)
 
+-- the bases of the first features
+pub no-bases : (region : Region) (bases : List (List HeldAmount)) → bases ≡ [] → AreBases region 0 bases
+no-bases region bases none = record { all = ap (λ (bs : List (List HeldAmount)). length bs) none; each = λ k below. absurd (omega (arith, below)) }
+
+pub bases-more : (region : Region) (count : ℕ) (bases bases' : List (List HeldAmount)) (more : List HeldAmount) → AreBases region count bases → bases' ≡ bases ++ more ∷ [] → base_until more ≡ bases_for region count → AreBases region (count + 1) bases'
+bases-more region count bases bases' more so_far grown is = record {
+  all = ap (λ (bs : List (List HeldAmount)). length bs) grown ∙ length-append bases (more ∷ []) ∙ ap (λ n. n + 1) so_far.all;
+  each = λ k below. (
+      let here : get_or bases' k [] ≡ get_or (bases ++ more ∷ []) k [] = ap (λ (bs : List (List HeldAmount)). get_or bs k []) grown in
+      elim (cases_lt k count) [
+        | inl less ↦ ap base_until (here ∙ get_or_append_left bases (more ∷ []) [] k (subst (λ n. k < n) (sym so_far.all) less)) ∙ so_far.each k less
+        | inr past ↦ (
+            let same : k ≡ count = omega (arith, below, past) in
+            ap base_until (here ∙ get_or-append_right bases (more ∷ []) count k [] so_far.all past ∙ ap (λ n. get_or (more ∷ []) n []) (let none : k - count ≡ 0 = omega (arith, same) in none)) ∙ is ∙ ap (bases_for region) (sym same))
+      ]);
+}
+
+pub in-bases : (region : Region) (bases : List (List HeldAmount)) (feature : ℕ) → AreBases region (length region.targets.features.ids) bases → feature < length region.targets.features.ids → feature < length bases
+in-bases region bases feature are known = subst (λ n. feature < n) (sym are.all) known
+
 -- the weight of a row
-pub weight-is : (region : Region) (rows : List Feature) (raw : List ℕ) (holders : List (ℕ × ℕ)) (feature level base weight : ℕ) → rows ≡ region.targets.features.rows → raw ≡ raw_costs_of region.area → holders ≡ holders_of region.targets.amounts feature
-    → base ≡ base_of raw holders level → weight ≡ weight_of (get_or rows feature no_feature).spf base → weight ≡ weight_for region feature level
-weight-is region rows raw holders feature level base weight rows_are raw_is holders_are base_is is =
+pub weight-is : (region : Region) (rows : List Feature) (bases : List (List HeldAmount)) (feature level base weight : ℕ) → rows ≡ region.targets.features.rows → AreBases region (length region.targets.features.ids) bases
+    → feature < length region.targets.features.ids → base ≡ base_until (get_or bases feature []) level → weight ≡ weight_of (get_or rows feature no_feature).spf base → weight ≡ weight_for region feature level
+weight-is region rows bases feature level base weight rows_are are known base_is is =
     is ∙ ap (λ (fs : List Feature). weight_of (get_or fs feature no_feature).spf base) rows_are
-    ∙ ap (weight_of (feature_at region.targets feature).spf) (base_is ∙ ap (λ costs. base_of costs holders level) raw_is ∙ ap (λ hs. base_of (raw_costs_of region.area) hs level) holders_are)
+    ∙ ap (weight_of (feature_at region.targets feature).spf) (base_is ∙ ap (λ (f : ℕ → ℕ). f level) (are.each feature known))
+
+pub base-at : (bases : List (List HeldAmount)) (feature level base : ℕ) (own : List HeldAmount) → feature < length bases → own ≡ get_or bases feature own → base ≡ base_until own level → base ≡ base_until (get_or bases feature []) level
+base-at bases feature level base own within is there =
+    there ∙ ap (λ (b : List HeldAmount). base_until b level) (sym (get_or_from_slice_get bases feature own [] (slice_get_read bases (length bases) feature own refl within is)))
+
+-- the bases of one feature
+pub bases-are : (region : Region) (raw : List ℕ) (holders : List (ℕ × ℕ)) (feature : ℕ) (bases : List HeldAmount) → raw ≡ raw_costs_of region.area → holders ≡ holders_of region.targets.amounts feature → base_until bases ≡ base_of raw holders → base_until bases ≡ bases_for region feature
+bases-are region raw holders feature bases raw_is holders_are is = is ∙ ap (λ costs. base_of costs holders) raw_is ∙ ap (base_of (raw_costs_of region.area)) holders_are
 
 -- a row is too heavy
 abbrev pub is_heavy : Target → Bool
@@ -96,7 +127,7 @@ pub record AreLight (rows : List Target) (count : ℕ) (first : List Target) : T
 pub no-row : (rows first : List Target) → first ≡ [] → AreLight rows 0 first
 no-row rows first none = record { are = none; light = ap (find is_heavy) none }
 
-in_rows : (region : Region) (levels : List ℕ) (row : ℕ) → levels ≡ levels_of region.targets → row < length levels → row < length (rows_of region)
+in_rows : (region : Region) (levels : List ℕ) (row : ℕ) → levels ≡ levels_of region.targets → row < length levels → row < length (target_rows_of region)
 in_rows region levels row are within =
     let count : length levels ≡ length (levels_of region.targets) = ap length are in
     let all = length-levels region.targets in
@@ -107,28 +138,28 @@ in_rows region levels row are within =
 abbrev row_made : List ℕ → ℕ → ℕ → Option ℕ → ℕ → Target
 row_made levels row feature zone weight = record { feature = feature; zone = zone; level = slice_index levels row; weight = weight }
 
-row-is : (region : Region) (levels : List ℕ) (row feature : ℕ) (zone : Option ℕ) (weight : ℕ) → levels ≡ levels_of region.targets → row_for region feature zone (slice_index (levels_of region.targets) row) ≡ get_or (rows_of region) row no_target
-    → weight ≡ weight_for region feature (slice_index levels row) → row_made levels row feature zone weight ≡ get_or (rows_of region) row no_target
+row-is : (region : Region) (levels : List ℕ) (row feature : ℕ) (zone : Option ℕ) (weight : ℕ) → levels ≡ levels_of region.targets → row_for region feature zone (slice_index (levels_of region.targets) row) ≡ get_or (target_rows_of region) row no_target
+    → weight ≡ weight_for region feature (slice_index levels row) → row_made levels row feature zone weight ≡ get_or (target_rows_of region) row no_target
 row-is region levels row feature zone weight are place is = ap (row_made levels row feature zone) is ∙ ap (λ ls. row_for region feature zone (slice_index ls row)) are ∙ place
 
 pub row-more : (region : Region) (levels : List ℕ) (row feature : ℕ) (zone : Option ℕ) (weight : ℕ) (first first' : List Target) → levels ≡ levels_of region.targets → row < length levels
-    → row_for region feature zone (slice_index (levels_of region.targets) row) ≡ get_or (rows_of region) row no_target → weight ≡ weight_for region feature (slice_index levels row) → weight ≤ 10 ^ 18
-    → AreLight (rows_of region) row first → first' ≡ first ++ row_made levels row feature zone weight ∷ [] → AreLight (rows_of region) (row + 1) first'
+    → row_for region feature zone (slice_index (levels_of region.targets) row) ≡ get_or (target_rows_of region) row no_target → weight ≡ weight_for region feature (slice_index levels row) → weight ≤ 10 ^ 18
+    → AreLight (target_rows_of region) row first → first' ≡ first ++ row_made levels row feature zone weight ∷ [] → AreLight (target_rows_of region) (row + 1) first'
 row-more region levels row feature zone weight first first' are within place is low so_far more =
     let target : Target = row_made levels row feature zone weight in
     record {
-      are = more ∙ ap (λ ts. ts ++ target ∷ []) so_far.are ∙ ap (λ (t : Target). take row (rows_of region) ++ t ∷ []) (row-is region levels row feature zone weight are place is)
-          ∙ sym (take-suc (rows_of region) row no_target (in_rows region levels row are within)) ∙ ap (λ n. take n (rows_of region)) (sym (add-one row));
+      are = more ∙ ap (λ ts. ts ++ target ∷ []) so_far.are ∙ ap (λ (t : Target). take row (target_rows_of region) ++ t ∷ []) (row-is region levels row feature zone weight are place is)
+          ∙ sym (take-suc (target_rows_of region) row no_target (in_rows region levels row are within)) ∙ ap (λ n. take n (target_rows_of region)) (sym (add-one row));
       light = ap (find is_heavy) more ∙ find-append is_heavy first (target ∷ []) ∙ ap (λ o. option_or o (find is_heavy (target ∷ []))) so_far.light ∙ cond-false (is_heavy target) (Some target) None (le-ltb (10 ^ 18) weight low);
     }
 
-pub rows-all : (region : Region) (levels : List ℕ) (row : ℕ) (first items : List Target) → levels ≡ levels_of region.targets → length levels ≤ row → AreLight (rows_of region) row first → items ≡ first → (heavy_row region ≡ None) × (items ≡ rows_of region)
+pub rows-all : (region : Region) (levels : List ℕ) (row : ℕ) (first items : List Target) → levels ≡ levels_of region.targets → length levels ≤ row → AreLight (target_rows_of region) row first → items ≡ first → (heavy_row region ≡ None) × (items ≡ target_rows_of region)
 unfolding heavy_row
 rows-all region levels row first items are past so_far same =
     let count : length levels ≡ length (levels_of region.targets) = ap length are in
     let all = length-levels region.targets in
     let both = length-rows region in
-    let whole : first ≡ rows_of region = so_far.are ∙ take_all row (rows_of region) (omega (arith, count, all, both, past)) in
+    let whole : first ≡ target_rows_of region = so_far.are ∙ take_all row (target_rows_of region) (omega (arith, count, all, both, past)) in
     (ap (find is_heavy) (sym whole) ∙ so_far.light, same ∙ whole)
 
 heavy-at : (rows first : List Target) (row : ℕ) (target : Target) → AreLight rows row first → row < length rows → target ≡ get_or rows row no_target → 10 ^ 18 < target.weight → find is_heavy rows ≡ Some target
@@ -139,9 +170,9 @@ heavy-at rows first row target so_far within is above =
     ∙ cond-true (is_heavy target) (Some target) (find is_heavy (drop (suc row) rows)) (lt-ltb (10 ^ 18) target.weight above)
 
 pub row-heavy : (region : Region) (levels : List ℕ) (row feature : ℕ) (zone : Option ℕ) (weight id : ℕ) (first : List Target) → levels ≡ levels_of region.targets → row < length levels
-    → row_for region feature zone (slice_index (levels_of region.targets) row) ≡ get_or (rows_of region) row no_target → weight ≡ weight_for region feature (slice_index levels row) → 10 ^ 18 < weight
-    → AreLight (rows_of region) row first → slice_get region.targets.features.ids feature ≡ Some id → (target : Target) × (heavy_row region ≡ Some target) × (id ≡ id_of_row region target)
+    → row_for region feature zone (slice_index (levels_of region.targets) row) ≡ get_or (target_rows_of region) row no_target → weight ≡ weight_for region feature (slice_index levels row) → 10 ^ 18 < weight
+    → AreLight (target_rows_of region) row first → slice_get region.targets.features.ids feature ≡ Some id → (target : Target) × (heavy_row region ≡ Some target) × (id ≡ id_of_row region target)
 unfolding heavy_row
 row-heavy region levels row feature zone weight id first are within place is above so_far named =
     let target : Target = row_made levels row feature zone weight in
-    (target, heavy-at (rows_of region) first row target so_far (in_rows region levels row are within) (row-is region levels row feature zone weight are place is) above, sym (get_or_from_slice_get region.targets.features.ids feature id 0 named))
+    (target, heavy-at (target_rows_of region) first row target so_far (in_rows region levels row are within) (row-is region levels row feature zone weight are place is) above, sym (get_or_from_slice_get region.targets.features.ids feature id 0 named))

@@ -10,21 +10,21 @@ use Rattle.mz_units.specs.declared.named.ZoneList.{ZoneList}
 use Rattle.mz_units.specs.declared.units.UnitList.{UnitList}
 use Rattle.mz_units.specs.Named.{costs_of, zones_of}
 use Rattle.mz_units.specs.UnitRows.{units_of}
-use Rattle.mz_units.specs.Wanted.{cost_columns, unit_columns, zone_columns, zone_cost_columns}
+use Rattle.mz_units.specs.Wanted.{unit_columns}
 use Rattle.mz_units.specs.ZoneCosts.{multipliers_of}
 use Rattle.mz_project.specs.declared.area.Area.{Area}
 use Rattle.mz_project.specs.declared.fault.InputFault.{InputFault}
 use Rattle.mz_project.specs.declared.fault.InputFault.TheVariants.{Param}
 use Rattle.mz_project.specs.declared.fault.Which.TheVariants.{Zones, Costs, Units, ZoneCosts}
 use Rattle.mz_project.specs.Defaults.{ones_outside}
-use Rattle.mz_project.specs.Reads.{Reads, if_given, rows_read, taken, then_read}
+use Rattle.mz_project.specs.Reads.{Reads, rows_or_default, rows_read, taken, then_read}
 
 -- without a file of zones there are an available and a reserved one
 abbrev pub default_zones : ZoneList
 default_zones = record { ids = 1 ∷ 2 ∷ []; names = codes "available" ∷ codes "reserved" ∷ [] }
 
 abbrev pub zones_read : Params → Files → Reads ZoneList
-zones_read params files = if_given params.zones default_zones (λ name. rows_read files params.input_dir name Zones zone_columns zones_of)
+zones_read params files = rows_or_default params Zones default_zones zones_of files
 
 -- the place of the zone that AVAILABLEZONE names
 abbrev pub place_of_available : Option ℕ → Result ℕ InputFault
@@ -39,7 +39,7 @@ abbrev pub default_costs : CostList
 default_costs = record { ids = 1 ∷ []; names = codes "cost" ∷ [] }
 
 abbrev pub costs_read : Params → Files → Reads CostList
-costs_read params files = if_given params.costs default_costs (λ name. rows_read files params.input_dir name Costs cost_columns costs_of)
+costs_read params files = rows_or_default params Costs default_costs costs_of files
 
 abbrev pub units_read : Params → CostList → Files → Reads UnitList
 units_read params costs files = rows_read files params.input_dir params.units Units (unit_columns costs.names) units_of
@@ -47,8 +47,7 @@ units_read params costs files = rows_read files params.input_dir params.units Un
 -- without a file of zone costs each cost counts once outside the available zone
 abbrev pub multipliers_read : Params → ZoneList → ℕ → CostList → Files → Reads (List ℕ)
 multipliers_read params zones available costs files =
-    if_given params.zone_costs (ones_outside (length zones.ids) (length costs.ids) available)
-    (λ name. rows_read files params.input_dir name ZoneCosts zone_cost_columns (multipliers_of zones.ids costs.ids))
+    rows_or_default params ZoneCosts (ones_outside (length zones.ids) (length costs.ids) available) (multipliers_of zones.ids costs.ids) files
 
 -- all of these, in order
 abbrev pub area_of : ZoneList → ℕ → CostList → UnitList → List ℕ → Area

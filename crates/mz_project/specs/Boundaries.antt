@@ -1,36 +1,34 @@
 -- Boundaries: the lengths between units and round them, and what a boundary between two zones counts.
-use Rattle.std.specs.Prelude.{ℕ, ◌*◌, ◌/◌, ◌%◌, ◌^◌, ◌==◌, if◌then◌else◌, List, [], length, replicate, Ok}
+use Rattle.std.specs.Prelude.{ℕ, ◌*◌, ◌/◌, ◌%◌, ◌==◌, if◌then◌else◌, List, [], length, replicate, Ok}
+use Rattle.mz_num.specs.Limits.{million}
 use Rattle.mz_shelf.specs.State.{Files}
 use Rattle.mz_params.specs.declared.params.Params.{Params}
 use Rattle.mz_bounds.specs.declared.bounds.Bounds.{Bounds}
 use Rattle.mz_bounds.specs.Bounds.{bounds_of}
-use Rattle.mz_bounds.specs.Wanted.{bound_columns, zone_bound_columns}
 use Rattle.mz_bounds.specs.ZoneBounds.{zone_bounds_of}
 use Rattle.mz_num.specs.Places.{list_below}
 use Rattle.mz_project.specs.declared.area.Area.{Area}
 use Rattle.mz_project.specs.declared.boundaries.Boundaries.{Boundaries}
 use Rattle.mz_project.specs.declared.fault.Which.TheVariants.{Bounds as BoundFile, ZoneBounds}
-use Rattle.mz_project.specs.Reads.{Reads, if_given, rows_read, taken, then_read}
+use Rattle.mz_project.specs.Reads.{Reads, rows_or_default, taken, then_read}
 
 -- without a file of boundaries no unit has any
 abbrev pub no_bounds : ℕ → Bounds
 no_bounds units = record { edges = []; outer = replicate units 0 }
 
 abbrev pub bounds_read : Params → Area → Files → Reads Bounds
-bounds_read params area files =
-    if_given params.bounds (no_bounds (length area.units.ids)) (λ name. rows_read files params.input_dir name BoundFile bound_columns (bounds_of area.units.ids))
+bounds_read params area files = rows_or_default params BoundFile (no_bounds (length area.units.ids)) (bounds_of area.units.ids) files
 
 -- without a file of zone boundary costs a boundary between different zones counts once, and within one zone not
 abbrev pub default_boundary_cost : ℕ → ℕ → ℕ
-default_boundary_cost k l = if k == l then 0 else 10 ^ 6
+default_boundary_cost k l = if k == l then 0 else million
 
 -- the same of each two zones, at `zone * zones + zone`
 unfoldable pub default_boundary_costs : ℕ → List ℕ
 default_boundary_costs zones = list_below (zones * zones) (λ place. default_boundary_cost (place / zones) (place % zones))
 
 abbrev pub zone_bounds_read : Params → Area → Files → Reads (List ℕ)
-zone_bounds_read params area files =
-    if_given params.zone_bounds (default_boundary_costs (length area.zones.ids)) (λ name. rows_read files params.input_dir name ZoneBounds zone_bound_columns (zone_bounds_of area.zones.ids))
+zone_bounds_read params area files = rows_or_default params ZoneBounds (default_boundary_costs (length area.zones.ids)) (zone_bounds_of area.zones.ids) files
 
 -- both of these, in order
 abbrev pub boundaries_of : Bounds → List ℕ → Boundaries

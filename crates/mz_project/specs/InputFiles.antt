@@ -1,5 +1,6 @@
--- The table of the input files: of each the word that messages name it by, and the columns that it is read for.
-use Rattle.std.specs.Prelude.{ℕ, Bool, false, nat_lt, if◌then◌else◌, List, [], ◌++◌, codes, decimal, get_or}
+-- The table of the input files: of each the word that messages name it by, the parameter that names it, and the columns that it is read for.
+use Rattle.std.specs.Prelude.{ℕ, Bool, false, nat_lt, if◌then◌else◌, List, [], ◌++◌, codes, decimal, get_or, Option, Some, None}
+use Rattle.mz_params.specs.declared.params.Params.{Params}
 use Rattle.mz_tables.specs.declared.wants.Want.{Want}
 use Rattle.mz_tables.specs.Wants.{want}
 use Rattle.mz_units.specs.Wanted.{cost_columns, unit_id_columns, unit_zone_columns, zone_columns, zone_cost_columns}
@@ -23,6 +24,22 @@ word_of_file file.ZoneSets = codes "puzone"
 word_of_file file.Locks = codes "pulock"
 word_of_file file.Bounds = codes "bound"
 word_of_file file.ZoneBounds = codes "zoneboundcost"
+
+-- the name that the parameters give a file, where they give one; the parameter file has none there
+abbrev pub file_named : Params → Which → Option (List ℕ)
+file_named params file.Params = None
+file_named params file.Zones = params.zones
+file_named params file.Costs = params.costs
+file_named params file.Units = Some params.units
+file_named params file.ZoneCosts = params.zone_costs
+file_named params file.Features = params.features
+file_named params file.Amounts = params.amounts
+file_named params file.Contribs = params.contribs
+file_named params file.ZoneTargets = params.zone_targets
+file_named params file.ZoneSets = params.zone_sets
+file_named params file.Locks = params.locks
+file_named params file.Bounds = params.bounds
+file_named params file.ZoneBounds = params.zone_bounds
 
 -- the columns of a file, of which the unit file has one more for each cost; the parameter file is no table
 abbrev pub columns_of : Which → List Want

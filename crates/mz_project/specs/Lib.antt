@@ -1,9 +1,10 @@
+pub mod AmountsByFeature
 pub mod Area
+pub mod Bases
 pub mod Boundaries
 pub mod Defaults
 pub mod Fits
 pub mod GivenFiles
-pub mod Holdings
 pub mod InputFiles
 pub mod Lengths
 pub mod Limits

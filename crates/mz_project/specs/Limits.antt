@@ -1,6 +1,7 @@
 -- The quantities of a project that have a limit.
-use Rattle.std.specs.Prelude.{◌≡◌, ℕ, zero, suc, ◌+◌, ◌*◌, ◌^◌, Bool, true, false, ◌||◌, nat_lt, if◌then◌else◌, List, length, slice_index, Option, Some, None, Result, Ok, Err}
+use Rattle.std.specs.Prelude.{◌≡◌, ℕ, zero, suc, ◌+◌, ◌*◌, Bool, true, false, ◌||◌, nat_lt, if◌then◌else◌, List, length, slice_index, Option, Some, None, Result, Ok, Err}
 use Rattle.std.specs.List.{find, list_any, sum}
+use Rattle.mz_num.specs.Limits.{greatest_quantity, million}
 use Rattle.mz_num.specs.Round.{round}
 use Rattle.mz_params.specs.declared.params.Params.{Params}
 use Rattle.mz_model.specs.declared.parts.Parts.{Parts}
@@ -18,11 +19,11 @@ use Rattle.mz_project.specs.declared.fault.What.{What}
 use Rattle.mz_project.specs.declared.fault.What.TheVariants.{Cost, Rate, Boundary, Edge, Amount, Gain, Level}
 use Rattle.mz_project.specs.declared.region.Region.{Region}
 use Rattle.mz_project.specs.declared.targets.Targets.{Targets}
-use Rattle.mz_project.specs.Parts.{levels_of, parts_of, rates_of, rows_of, term_of}
+use Rattle.mz_project.specs.Parts.{levels_of, parts_of, rates_of, target_rows_of, term_of}
 
 -- more than 10^18
 abbrev pub is_above : ℕ → Bool
-is_above quantity = nat_lt (10 ^ 18) quantity
+is_above quantity = nat_lt greatest_quantity quantity
 
 -- the test holds at some place below n
 abbrev pub some_below : ℕ → (ℕ → Bool) → Bool
@@ -51,7 +52,7 @@ lengths_are_above bounds = list_any (λ (edge : ℕ × ℕ × ℕ). is_above edg
 
 -- the term of a length under the greatest rate
 abbrev pub greatest_term : List ℕ → ℕ → ℕ
-greatest_term rates len = round (len * greatest_below (length rates) (slice_index rates)) (10 ^ 6)
+greatest_term rates len = round (len * greatest_below (length rates) (slice_index rates)) million
 
 -- such a term is
 unfoldable pub terms_are_above : List ℕ → List (ℕ × ℕ × ℕ) → List ℕ → Bool
@@ -71,7 +72,7 @@ greatest_gain region row = sum_below (length region.area.units.ids) (λ unit. gr
 
 -- such a gain is
 unfoldable pub gains_are_above : Region → Bool
-gains_are_above region = list_any (λ row. is_above (greatest_gain region row)) (rows_of region)
+gains_are_above region = list_any (λ row. is_above (greatest_gain region row)) (target_rows_of region)
 
 -- a level is
 unfoldable pub levels_are_above : Targets → Bool
@@ -79,7 +80,7 @@ levels_are_above targets = list_any is_above (levels_of targets)
 
 -- the first row whose weight is above the limit
 unfoldable pub heavy_row : Region → Option Target
-heavy_row region = find (λ row. is_above row.weight) (rows_of region)
+heavy_row region = find (λ row. is_above row.weight) (target_rows_of region)
 
 -- the id of a row's feature
 abbrev pub id_of_row : Region → Target → ℕ
@@ -123,7 +124,7 @@ Limited what above x (Err fault) = ⊥
 
 -- the answer is the rows, or the first one whose weight is above the limit
 abbrev pub Weighed : Region → Result (List Target) ReadFault → Type 0
-Weighed region (Ok rows) = (heavy_row region ≡ None) × (rows ≡ rows_of region)
+Weighed region (Ok rows) = (heavy_row region ≡ None) × (rows ≡ target_rows_of region)
 Weighed region (Err (Input (Weight id))) = (row : Target) × (heavy_row region ≡ Some row) × (id ≡ id_of_row region row)
 Weighed region (Err NoMemory) = Unit {0}
 Weighed region (Err fault) = ⊥

@@ -10,7 +10,7 @@ use Rattle.mz_project.specs.declared.numbers.Numbers.{Numbers}
 use Rattle.mz_project.specs.declared.numbers.TargetNumbers.{TargetNumbers}
 use Rattle.mz_project.specs.declared.region.Region.{Region}
 use Rattle.mz_project.specs.Limits.{costs_are_above, gains_are_above, heavy_row, lengths_are_above, levels_are_above, limited_parts, rates_are_above, terms_are_above, totals_are_above, within_costs, within_targets}
-use Rattle.mz_project.specs.Parts.{rates_of, rows_of, terms_of}
+use Rattle.mz_project.specs.Parts.{rates_of, target_rows_of, terms_of}
 use Rattle.mz_project.specs.ReadAs.{TakenAs}
 
 -- no quantity of costs and boundaries is above its limit
@@ -37,7 +37,7 @@ pub record AreTargetsWithin (region : Region) : Type 0 where
 pub record AreTargetNumbers (region : Region) (numbers : TargetNumbers) : Type 0 where
   pub within : AreTargetsWithin region
   pub amounts_are : numbers.amounts ≡ region.targets.amounts
-  pub rows_are : numbers.rows ≡ rows_of region
+  pub rows_are : numbers.rows ≡ target_rows_of region
 
 -- the ids in the order of their places
 abbrev pub id_lists_of : Region → IdLists

@@ -56,9 +56,13 @@ zone_level targets target = level target.value (total_of targets.amounts target.
 unfoldable pub levels_of : Targets → List ℕ
 levels_of targets = list_below (length targets.features.ids) (overall_level targets) ++ map (zone_level targets) targets.zone_targets
 
+-- what the units cost that reach each level of a feature
+abbrev pub bases_for : Region → ℕ → ℕ → ℕ
+bases_for region feature = base_of (raw_costs_of region.area) (holders_of region.targets.amounts feature)
+
 -- the weight of a row of that feature and level: the penalty factor times what the units cost that reach the level
 abbrev pub weight_for : Region → ℕ → ℕ → ℕ
-weight_for region feature level = weight_of (feature_at region.targets feature).spf (base_of (raw_costs_of region.area) (holders_of region.targets.amounts feature) level)
+weight_for region feature level = weight_of (feature_at region.targets feature).spf (bases_for region feature level)
 
 abbrev pub row_for : Region → ℕ → Option ℕ → ℕ → Target
 row_for region feature zone level = record { feature = feature; zone = zone; level = level; weight = weight_for region feature level }
@@ -72,8 +76,8 @@ abbrev pub zone_row : Region → ZoneTarget → Target
 zone_row region target = row_for region target.feature (Some target.zone) (zone_level region.targets target)
 
 -- all target rows: one for each feature, in order, and then the zone targets
-unfoldable pub rows_of : Region → List Target
-rows_of region = list_below (length region.targets.features.ids) (overall_row region) ++ map (zone_row region) region.targets.zone_targets
+unfoldable pub target_rows_of : Region → List Target
+target_rows_of region = list_below (length region.targets.features.ids) (overall_row region) ++ map (zone_row region) region.targets.zone_targets
 
 unfoldable pub parts_of : Params → Region → Parts
 parts_of params region = record {
@@ -87,7 +91,7 @@ parts_of params region = record {
   rates = rates_of params region;
   edges = region.boundaries.bounds.edges;
   outer = region.boundaries.bounds.outer;
-  targets = rows_of region;
+  targets = target_rows_of region;
   amounts = region.targets.amounts;
   fractions = region.targets.fractions;
 }

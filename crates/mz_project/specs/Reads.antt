@@ -1,15 +1,18 @@
 -- What is read of the files: their names in order, and what comes of them.
-use Rattle.std.specs.Prelude.{ℕ, nat_lt, if◌then◌else◌, List, [], ◌∷◌, ◌++◌, length, Option, Some, None, Result, Ok, Err}
+use Rattle.std.specs.Prelude.{◌≡◌, ℕ, nat_lt, if◌then◌else◌, List, [], ◌∷◌, ◌++◌, length, Option, Some, None, Result, Ok, Err}
+use Rattle.std.specs.List.{All}
 use Rattle.std.specs.FinMap.{get}
 use Rattle.mz_num.specs.Limits.{most_file_bytes}
 use Rattle.mz_shelf.specs.State.{Files}
 use Rattle.mz_params.specs.Folder.{file_in}
+use Rattle.mz_params.specs.declared.params.Params.{Params}
 use Rattle.mz_tables.specs.declared.fault.RowFault.{RowFault}
 use Rattle.mz_tables.specs.declared.fault.TableFault.{TableFault}
 use Rattle.mz_tables.specs.declared.wants.Want.{Want}
 use Rattle.mz_tables.specs.Table.{Row, read_table}
 use Rattle.mz_project.specs.declared.fault.Which.{Which}
 use Rattle.mz_project.specs.declared.fault.InputFault.{InputFault}
+use Rattle.mz_project.specs.InputFiles.{columns_of, file_named}
 use Rattle.mz_project.specs.declared.fault.InputFault.TheVariants.{TooLong, Table as OfTable, Row as OfRow}
 
 -- a file that isn't there, the first fault, or what was wanted
@@ -64,7 +67,23 @@ table_read files name which wants = then_read (file_read files name which) (λ b
 abbrev pub rows_read : {X : Type 0} → Files → List ℕ → List ℕ → Which → List Want → (List Row → Result X RowFault) → Reads X
 rows_read files folder name which wants reader = then_read (table_read files (file_in folder name) which wants) (λ rows. taken (of_rows which (reader rows)))
 
--- the file that is given, or the default without one
-abbrev pub if_given : {X : Type 0} → Option (List ℕ) → X → (List ℕ → Reads X) → Reads X
-if_given None default read = record { names = []; outcome = Given default }
-if_given (Some name) default read = read name
+-- the table of a file that may be given
+abbrev pub table_by_name : Files → List ℕ → Option (List ℕ) → Which → Reads (Option (List Row))
+table_by_name files folder None which = record { names = []; outcome = Given None }
+table_by_name files folder (Some name) which = then_read (table_read files (file_in folder name) which (columns_of which)) (λ rows. taken (Ok (Some rows)))
+
+abbrev pub table_given : Params → Which → Files → Reads (Option (List Row))
+table_given params which files = table_by_name files params.input_dir (file_named params which) which
+
+-- what a reader makes of the table; the default without one
+abbrev pub made_or : {X : Type 0} → Which → X → (List Row → Result X RowFault) → Option (List Row) → Result X InputFault
+made_or which default reader None = Ok default
+made_or which default reader (Some rows) = of_rows which (reader rows)
+
+abbrev pub rows_or_default : {X : Type 0} → Params → Which → X → (List Row → Result X RowFault) → Files → Reads X
+rows_or_default params which default reader files = then_read (table_given params which files) (λ table. taken (made_or which default reader table))
+
+-- each row of a table has so many fields
+abbrev pub IsWide : ℕ → Option (List Row) → Type 0
+IsWide width None = Unit {0}
+IsWide width (Some rows) = All (λ row. length row ≡ width) rows

@@ -7,35 +7,31 @@ use Rattle.mz_targets.specs.declared.zone_targets.ZoneTarget.{ZoneTarget}
 use Rattle.mz_targets.specs.Amounts.{amounts_of}
 use Rattle.mz_targets.specs.Contribs.{fractions_of}
 use Rattle.mz_targets.specs.Features.{features_of}
-use Rattle.mz_targets.specs.Wanted.{amount_columns, contrib_columns, feature_columns, zone_target_columns}
 use Rattle.mz_targets.specs.ZoneTargets.{zone_targets_of}
 use Rattle.mz_project.specs.declared.area.Area.{Area}
 use Rattle.mz_project.specs.declared.fault.Which.TheVariants.{Features, Amounts, Contribs, ZoneTargets}
 use Rattle.mz_project.specs.declared.targets.Targets.{Targets}
 use Rattle.mz_project.specs.Defaults.{ones_outside}
-use Rattle.mz_project.specs.Reads.{Reads, if_given, rows_read, taken, then_read}
+use Rattle.mz_project.specs.Reads.{Reads, rows_or_default, taken, then_read}
 
 -- without a file of features there are none
 abbrev pub no_features : FeatureList
 no_features = record { ids = []; names = []; rows = [] }
 
 abbrev pub features_read : Params → Files → Reads FeatureList
-features_read params files = if_given params.features no_features (λ name. rows_read files params.input_dir name Features feature_columns features_of)
+features_read params files = rows_or_default params Features no_features features_of files
 
 -- unit, feature and sum of amounts, by place
 abbrev pub amounts_read : Params → Area → FeatureList → Files → Reads (List (ℕ × ℕ × ℕ))
-amounts_read params area features files =
-    if_given params.amounts [] (λ name. rows_read files params.input_dir name Amounts amount_columns (amounts_of area.units.ids features.ids))
+amounts_read params area features files = rows_or_default params Amounts [] (amounts_of area.units.ids features.ids) files
 
 -- without a file of contributions an amount counts once outside the available zone
 abbrev pub fractions_read : Params → Area → FeatureList → Files → Reads (List ℕ)
 fractions_read params area features files =
-    if_given params.contribs (ones_outside (length area.zones.ids) (length features.ids) area.available)
-    (λ name. rows_read files params.input_dir name Contribs contrib_columns (fractions_of area.zones.ids features.ids))
+    rows_or_default params Contribs (ones_outside (length area.zones.ids) (length features.ids) area.available) (fractions_of area.zones.ids features.ids) files
 
 abbrev pub zone_targets_read : Params → Area → FeatureList → Files → Reads (List ZoneTarget)
-zone_targets_read params area features files =
-    if_given params.zone_targets [] (λ name. rows_read files params.input_dir name ZoneTargets zone_target_columns (zone_targets_of area.zones.ids features.ids))
+zone_targets_read params area features files = rows_or_default params ZoneTargets [] (zone_targets_of area.zones.ids features.ids) files
 
 -- all of these, in order
 abbrev pub targets_of : FeatureList → List (ℕ × ℕ × ℕ) → List ℕ → List ZoneTarget → Targets

@@ -1,26 +1,27 @@
 //! The zones, the costs, the units, and what the zones multiply the costs by.
 ghost use Rattle.std.specs.Prelude.{◌≡◌, ◌<◌, ◌≤◌, ◌+◌, IfOk, length};
 ghost use Rattle.std.specs.List.{All};
+ghost use Rattle.mz_num.specs.Limits.{most_costs, most_zones};
 ghost use Rattle.mz_rows.specs.ByZone.{AreByZone};
 ghost use Rattle.mz_units.specs.Named.{IsNamedList, costs_of, zones_of};
 ghost use Rattle.mz_units.specs.UnitRows.{IsUnitList, units_of};
 ghost use Rattle.mz_units.specs.ZoneCosts.{multipliers_of};
 ghost use Rattle.mz_project.specs.Area.{area_read, available_place, costs_read, default_costs as costs_by_default, default_zones as zones_by_default, multipliers_read, units_read, zones_read};
+ghost use Rattle.mz_project.specs.Defaults.{ones_outside as ones_by_zone};
 ghost use Rattle.mz_project.specs.Fits.{FitsArea};
 ghost use Rattle.mz_project.specs.ReadAs.{ReadAs, TakenAs};
-ghost use Rattle.mz_project.specs.Reads.{of_rows};
+ghost use Rattle.mz_project.specs.Reads.{IsWide, made_or, of_rows};
 ghost use Rattle.mz_project.specs.declared.fault.Which.TheVariants as file;
 
 use crate::defaults::ones_outside;
 use crate::fault::{ReadFault, Which, param_fault, row_fault};
-use crate::file::read_table;
+use crate::file::{given_table, read_table};
 use mz_num::{Items, NoMemory};
 use mz_params::{Key, ParamFault, Params};
 use mz_shelf::Shelf;
 use mz_tables::{Ids, Table};
 use mz_units::{
-    CostList, UnitList, ZoneList, read_costs, read_units, read_zone_costs, read_zones, wants_costs,
-    wants_units, wants_zone_costs, wants_zones,
+    CostList, UnitList, ZoneList, read_costs, read_units, read_zone_costs, read_zones, wants_units,
 };
 use std::alloc::Global;
 
@@ -65,25 +66,21 @@ fn zones<S: Shelf>(alloc: Global, shelf: &mut S, params: &Params) -> Result<Zone
     ensures read { ReadAs (zones_read params.now) (S.state shelf.old) (S.state shelf.new) result }
     ensures fit { IfOk result (λ zones. IsNamedList zones.ids zones.names) }
 {
-    match &params.zones {
-        Some(name) => {
-            let wants = wants_zones(alloc)?;
-            let folder = params.input_dir.as_str();
-            let table = read_table(alloc, shelf, folder, name.as_str(), Which::Zones, &wants)?;
-            zones_in(alloc, &table)
-        }
-        None => Ok(default_zones(alloc)?),
-    }
+    let table = given_table(alloc, shelf, params, Which::Zones)?;
+    zones_in(alloc, &table)
 }
 
-fn zones_in(alloc: Global, table: &Table) -> Result<ZoneList, ReadFault>
-    requires { All (λ row. length row ≡ 2) table.now }
-    ensures taken { TakenAs (of_rows file.Zones (zones_of table.now)) result }
+fn zones_in(alloc: Global, table: &Option<Table>) -> Result<ZoneList, ReadFault>
+    requires { IsWide 2 table.now }
+    ensures taken { TakenAs (made_or file.Zones zones_by_default zones_of table.now) result }
     ensures fit { IfOk result (λ zones. IsNamedList zones.ids zones.names) }
 {
-    match read_zones(alloc, table) {
-        Ok(zones) => Ok(zones),
-        Err(fault) => Err(row_fault(Which::Zones, fault)),
+    match table {
+        Some(table) => match read_zones(alloc, table) {
+            Ok(zones) => Ok(zones),
+            Err(fault) => Err(row_fault(Which::Zones, fault)),
+        },
+        None => Ok(default_zones(alloc)?),
     }
 }
 
@@ -111,7 +108,7 @@ fn name_of(alloc: Global, name: &[u8]) -> Result<Items<u8>, NoMemory>
 
 /// The place of the zone that AVAILABLEZONE names.
 fn available_zone(params: &Params, zones: &ZoneList) -> Result<u8, ReadFault>
-    requires { length zones.now.ids ≤ 60 }
+    requires { length zones.now.ids ≤ most_zones }
     ensures taken { TakenAs (available_place params.now zones.now) result }
     ensures within { IfOk result (λ available. available < length zones.now.ids) }
 {
@@ -126,25 +123,21 @@ fn costs<S: Shelf>(alloc: Global, shelf: &mut S, params: &Params) -> Result<Cost
     ensures read { ReadAs (costs_read params.now) (S.state shelf.old) (S.state shelf.new) result }
     ensures fit { IfOk result (λ costs. IsNamedList costs.ids costs.names) }
 {
-    match &params.costs {
-        Some(name) => {
-            let wants = wants_costs(alloc)?;
-            let folder = params.input_dir.as_str();
-            let table = read_table(alloc, shelf, folder, name.as_str(), Which::Costs, &wants)?;
-            costs_in(alloc, &table)
-        }
-        None => Ok(default_costs(alloc)?),
-    }
+    let table = given_table(alloc, shelf, params, Which::Costs)?;
+    costs_in(alloc, &table)
 }
 
-fn costs_in(alloc: Global, table: &Table) -> Result<CostList, ReadFault>
-    requires { All (λ row. length row ≡ 2) table.now }
-    ensures taken { TakenAs (of_rows file.Costs (costs_of table.now)) result }
+fn costs_in(alloc: Global, table: &Option<Table>) -> Result<CostList, ReadFault>
+    requires { IsWide 2 table.now }
+    ensures taken { TakenAs (made_or file.Costs costs_by_default costs_of table.now) result }
     ensures fit { IfOk result (λ costs. IsNamedList costs.ids costs.names) }
 {
-    match read_costs(alloc, table) {
-        Ok(costs) => Ok(costs),
-        Err(fault) => Err(row_fault(Which::Costs, fault)),
+    match table {
+        Some(table) => match read_costs(alloc, table) {
+            Ok(costs) => Ok(costs),
+            Err(fault) => Err(row_fault(Which::Costs, fault)),
+        },
+        None => Ok(default_costs(alloc)?),
     }
 }
 
@@ -201,37 +194,33 @@ fn multipliers<S: Shelf>(
     available: u8,
     costs: &CostList,
 ) -> Result<Items<u64>, ReadFault>
-    requires zones { length zones.now.ids ≤ 60 }
-    requires costs { length costs.now.ids ≤ 60 }
+    requires zones { length zones.now.ids ≤ most_zones }
+    requires costs { length costs.now.ids ≤ most_costs }
     ensures read { ReadAs (multipliers_read params.now zones.now available costs.now) (S.state shelf.old) (S.state shelf.new) result }
     ensures fit { IfOk result (AreByZone (length zones.now.ids) (length costs.now.ids)) }
 {
-    match &params.zone_costs {
-        Some(name) => {
-            let wants = wants_zone_costs(alloc)?;
-            let folder = params.input_dir.as_str();
-            let name = name.as_str();
-            let table = read_table(alloc, shelf, folder, name, Which::ZoneCosts, &wants)?;
-            multipliers_in(alloc, &table, &zones.ids, &costs.ids)
-        }
-        None => Ok(ones_outside(alloc, zones.ids.len(), costs.ids.len(), available)?),
-    }
+    let table = given_table(alloc, shelf, params, Which::ZoneCosts)?;
+    multipliers_in(alloc, &table, &zones.ids, &costs.ids, available)
 }
 
 fn multipliers_in(
     alloc: Global,
-    table: &Table,
+    table: &Option<Table>,
     zones: &Ids,
     costs: &Ids,
+    available: u8,
 ) -> Result<Items<u64>, ReadFault>
-    requires zones { length zones.now ≤ 60 }
-    requires costs { length costs.now ≤ 60 }
-    requires wide { All (λ row. length row ≡ 3) table.now }
-    ensures taken { TakenAs (of_rows file.ZoneCosts (multipliers_of zones.now costs.now table.now)) result }
+    requires zones { length zones.now ≤ most_zones }
+    requires costs { length costs.now ≤ most_costs }
+    requires wide { IsWide 3 table.now }
+    ensures taken { TakenAs (made_or file.ZoneCosts (ones_by_zone (length zones.now) (length costs.now) available) (multipliers_of zones.now costs.now) table.now) result }
     ensures fit { IfOk result (AreByZone (length zones.now) (length costs.now)) }
 {
-    match read_zone_costs(alloc, table, zones, costs) {
-        Ok(multipliers) => Ok(Items::new(multipliers)),
-        Err(fault) => Err(row_fault(Which::ZoneCosts, fault)),
+    match table {
+        Some(table) => match read_zone_costs(alloc, table, zones, costs) {
+            Ok(multipliers) => Ok(Items::new(multipliers)),
+            Err(fault) => Err(row_fault(Which::ZoneCosts, fault)),
+        },
+        None => Ok(ones_outside(alloc, zones.len(), costs.len(), available)?),
     }
 }

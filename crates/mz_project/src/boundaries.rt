@@ -1,18 +1,19 @@
 //! The boundaries between units, and what a boundary between two zones counts.
 ghost use Rattle.std.specs.Prelude.{◌≡◌, ◌≤◌, IfOk, length};
-ghost use Rattle.std.specs.List.{All};
+ghost use Rattle.mz_num.specs.Limits.{most_zones};
 ghost use Rattle.mz_bounds.specs.Bounds.{AreFitBounds, bounds_of};
 ghost use Rattle.mz_bounds.specs.ZoneBounds.{AreZoneBounds, zone_bounds_of};
 ghost use Rattle.mz_project.specs.Boundaries.{boundaries_read, bounds_read, default_boundary_cost, default_boundary_costs as costs_by_default, no_bounds as none_of_bounds, zone_bounds_read};
 ghost use Rattle.mz_project.specs.Fits.{FitsArea, FitsBoundaries};
 ghost use Rattle.mz_project.specs.ReadAs.{ReadAs, TakenAs};
-ghost use Rattle.mz_project.specs.Reads.{of_rows};
+ghost use Rattle.mz_project.specs.Reads.{IsWide, made_or};
 ghost use Rattle.mz_project.specs.declared.fault.Which.TheVariants as file;
 
 use crate::area::Area;
 use crate::fault::{ReadFault, Which, row_fault};
-use crate::file::read_table;
-use mz_bounds::{Bounds, read_bounds, read_zone_bounds, wants_bounds, wants_zone_bounds};
+use crate::file::given_table;
+use mz_bounds::{Bounds, read_bounds, read_zone_bounds};
+use mz_num::limits::MILLION;
 use mz_num::{Items, NoMemory};
 use mz_params::Params;
 use mz_shelf::Shelf;
@@ -54,25 +55,21 @@ fn bounds<S: Shelf>(
     ensures read { ReadAs (bounds_read params.now area.now) (S.state shelf.old) (S.state shelf.new) result }
     ensures fit { IfOk result (AreFitBounds (length area.now.units.ids)) }
 {
-    match &params.bounds {
-        Some(name) => {
-            let wants = wants_bounds(alloc)?;
-            let folder = params.input_dir.as_str();
-            let table = read_table(alloc, shelf, folder, name.as_str(), Which::Bounds, &wants)?;
-            bounds_in(alloc, &table, &area.units.ids)
-        }
-        None => Ok(no_bounds(alloc, area.units.ids.len())?),
-    }
+    let table = given_table(alloc, shelf, params, Which::Bounds)?;
+    bounds_in(alloc, &table, &area.units.ids)
 }
 
-fn bounds_in(alloc: Global, table: &Table, units: &Ids) -> Result<Bounds, ReadFault>
-    requires { All (λ row. length row ≡ 3) table.now }
-    ensures taken { TakenAs (of_rows file.Bounds (bounds_of units.now table.now)) result }
+fn bounds_in(alloc: Global, table: &Option<Table>, units: &Ids) -> Result<Bounds, ReadFault>
+    requires { IsWide 3 table.now }
+    ensures taken { TakenAs (made_or file.Bounds (none_of_bounds (length units.now)) (bounds_of units.now) table.now) result }
     ensures fit { IfOk result (AreFitBounds (length units.now)) }
 {
-    match read_bounds(alloc, table, units) {
-        Ok(bounds) => Ok(bounds),
-        Err(fault) => Err(row_fault(Which::Bounds, fault)),
+    match table {
+        Some(table) => match read_bounds(alloc, table, units) {
+            Ok(bounds) => Ok(bounds),
+            Err(fault) => Err(row_fault(Which::Bounds, fault)),
+        },
+        None => Ok(no_bounds(alloc, units.len())?),
     }
 }
 
@@ -93,38 +90,37 @@ fn zone_bounds<S: Shelf>(
     params: &Params,
     area: &Area,
 ) -> Result<Items<u64>, ReadFault>
-    requires { length area.now.zones.ids ≤ 60 }
+    requires { length area.now.zones.ids ≤ most_zones }
     ensures read { ReadAs (zone_bounds_read params.now area.now) (S.state shelf.old) (S.state shelf.new) result }
     ensures fit { IfOk result (AreZoneBounds (length area.now.zones.ids)) }
 {
-    match &params.zone_bounds {
-        Some(name) => {
-            let wants = wants_zone_bounds(alloc)?;
-            let folder = params.input_dir.as_str();
-            let name = name.as_str();
-            let table = read_table(alloc, shelf, folder, name, Which::ZoneBounds, &wants)?;
-            zone_bounds_in(alloc, &table, &area.zones.ids)
-        }
-        None => Ok(default_boundary_costs(alloc, area.zones.ids.len())?),
-    }
+    let table = given_table(alloc, shelf, params, Which::ZoneBounds)?;
+    zone_bounds_in(alloc, &table, &area.zones.ids)
 }
 
-fn zone_bounds_in(alloc: Global, table: &Table, zones: &Ids) -> Result<Items<u64>, ReadFault>
-    requires zones { length zones.now ≤ 60 }
-    requires wide { All (λ row. length row ≡ 3) table.now }
-    ensures taken { TakenAs (of_rows file.ZoneBounds (zone_bounds_of zones.now table.now)) result }
+fn zone_bounds_in(
+    alloc: Global,
+    table: &Option<Table>,
+    zones: &Ids,
+) -> Result<Items<u64>, ReadFault>
+    requires zones { length zones.now ≤ most_zones }
+    requires wide { IsWide 3 table.now }
+    ensures taken { TakenAs (made_or file.ZoneBounds (costs_by_default (length zones.now)) (zone_bounds_of zones.now) table.now) result }
     ensures fit { IfOk result (AreZoneBounds (length zones.now)) }
 {
-    match read_zone_bounds(alloc, table, zones) {
-        Ok(costs) => Ok(Items::new(costs)),
-        Err(fault) => Err(row_fault(Which::ZoneBounds, fault)),
+    match table {
+        Some(table) => match read_zone_bounds(alloc, table, zones) {
+            Ok(costs) => Ok(Items::new(costs)),
+            Err(fault) => Err(row_fault(Which::ZoneBounds, fault)),
+        },
+        None => Ok(default_boundary_costs(alloc, zones.len())?),
     }
 }
 
 /// What a boundary between two zones counts where no file says it.
 #[tactic(auto, unfolding(crate::specs::Boundaries::default_boundary_costs))]
 fn default_boundary_costs(alloc: Global, zones: u32) -> Result<Items<u64>, NoMemory>
-    requires { zones ≤ 60 }
+    requires { zones ≤ most_zones }
     ensures costs { IfOk result (λ costs. costs ≡ costs_by_default zones) }
     ensures fit { IfOk result (AreZoneBounds zones) }
 {
@@ -139,5 +135,5 @@ fn default_boundary_costs(alloc: Global, zones: u32) -> Result<Items<u64>, NoMem
 fn boundary_cost(k: u32, l: u32) -> u64
     ensures { result ≡ default_boundary_cost k l }
 {
-    if k == l { 0 } else { 1_000_000 }
+    if k == l { 0 } else { MILLION }
 }

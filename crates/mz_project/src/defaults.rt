@@ -1,8 +1,10 @@
 //! What counts by zone where no file says it.
-ghost use Rattle.std.specs.Prelude.{◌≡◌, ◌^◌, ◌++◌, if◌then◌else◌, IfOk, OnOk, replicate};
+ghost use Rattle.std.specs.Prelude.{◌≡◌, ◌++◌, if◌then◌else◌, IfOk, OnOk, replicate};
+ghost use Rattle.mz_num.specs.Limits.{million};
 ghost use Rattle.mz_rows.specs.ByZone.{AreByZone};
 ghost use Rattle.mz_project.specs.Defaults.{ones_outside as ones_by_zone};
 
+use mz_num::limits::MILLION;
 use mz_num::{Items, NoMemory};
 use std::alloc::Global;
 
@@ -26,9 +28,9 @@ pub(crate) fn ones_outside(
 
 /// Those of one zone.
 fn push_ones(ones: &mut Vec<u64>, things: u32, is_available: bool) -> Result<(), NoMemory>
-    ensures { OnOk result (ones.new.items ≡ ones.old.items ++ replicate things (if is_available then 0 else 10 ^ 6)) }
+    ensures { OnOk result (ones.new.items ≡ ones.old.items ++ replicate things (if is_available then 0 else million)) }
 {
-    let one = if is_available { 0 } else { 1_000_000 };
+    let one = if is_available { 0 } else { MILLION };
     for _thing in 0..things {
         ones.push(one)?;
     }

@@ -6,6 +6,7 @@ ghost use Rattle.mz_project.specs.ReadAs.{fault_of_params, fault_of_rows, fault_
 use mz_num::{NoMemory, Text};
 use mz_params::ParamFault;
 use mz_tables::{RowFault, TableFault};
+use std::alloc::{AllocError, AllocFailed};
 
 /// One of the input files, in the order in which they are read.
 #[derive(Clone, Copy, Debug, PartialEq, Eq)]
@@ -80,6 +81,22 @@ impl From<NoMemory> for ReadFault {
     ghost from_gives = { λ _ fault. fault ≡ the_fault.NoMemory };
 
     fn from(_error: NoMemory) -> ReadFault {
+        ReadFault::NoMemory
+    }
+}
+
+impl From<AllocError> for ReadFault {
+    ghost from_gives = { λ _ fault. fault ≡ the_fault.NoMemory };
+
+    fn from(_error: AllocError) -> ReadFault {
+        ReadFault::NoMemory
+    }
+}
+
+impl<T: Drop> From<AllocFailed<T>> for ReadFault {
+    ghost from_gives = { λ _ fault. fault ≡ the_fault.NoMemory };
+
+    fn from(_error: AllocFailed<T>) -> ReadFault {
         ReadFault::NoMemory
     }
 }

@@ -1,16 +1,16 @@
-//! The table of the input files: the word and the columns of each.
-ghost use Rattle.std.specs.Prelude.{◌≡◌, ◌++◌, map, OnOk};
+//! The table of the input files: the word, the name and the columns of each.
+ghost use Rattle.std.specs.Prelude.{◌≡◌, ◌++◌, map, option_copied, IfOk, OnOk};
 ghost use Rattle.mz_tables.specs.Wants.{want_of};
-ghost use Rattle.mz_project.specs.InputFiles.{column_name, columns_of as columns_wanted, is_cost_column as is_cost, word_of_file};
+ghost use Rattle.mz_project.specs.InputFiles.{column_name, columns_of as columns_wanted, file_named as name_given, is_cost_column as is_cost, word_of_file};
 
 use crate::fault::Which;
 use mz_bounds::{bound_columns, zone_bound_columns};
-use mz_num::{NoMemory, push_bytes, push_number};
-use mz_tables::Column;
+use mz_num::{NoMemory, Text, push_bytes, push_number};
+use mz_params::Params;
+use mz_tables::{Column, Wants};
 use mz_targets::{amount_columns, contrib_columns, feature_columns, zone_target_columns};
-use mz_units::{
-    cost_columns, unit_id_columns, unit_zone_columns, zone_columns, zone_cost_columns,
-};
+use mz_units::{cost_columns, unit_id_columns, unit_zone_columns, zone_columns, zone_cost_columns};
+use std::alloc::Global;
 
 /// The word by which a message names an input file.
 pub fn file_word(which: Which) -> &'static str
@@ -57,6 +57,27 @@ fn is_cost_column(which: Which, place: u16) -> bool
     }
 }
 
+/// The name that the parameters give a file, where they give one.
+pub(crate) fn file_named<'a>(params: &'a Params, which: Which) -> Option<&'a Text>
+    ensures { option_copied result ≡ name_given params.now which }
+{
+    match which {
+        Which::Params => None,
+        Which::Zones => params.zones.as_ref(),
+        Which::Costs => params.costs.as_ref(),
+        Which::Units => Some(&params.units),
+        Which::ZoneCosts => params.zone_costs.as_ref(),
+        Which::Features => params.features.as_ref(),
+        Which::Amounts => params.amounts.as_ref(),
+        Which::Contribs => params.contribs.as_ref(),
+        Which::ZoneTargets => params.zone_targets.as_ref(),
+        Which::ZoneSets => params.zone_sets.as_ref(),
+        Which::Locks => params.locks.as_ref(),
+        Which::Bounds => params.bounds.as_ref(),
+        Which::ZoneBounds => params.zone_bounds.as_ref(),
+    }
+}
+
 /// The columns of a file; those of the unit file behind the first are its costs.
 fn columns_of(which: Which) -> &'static [Column]
     ensures { map want_of result.now ≡ columns_wanted which }
@@ -76,4 +97,11 @@ fn columns_of(which: Which) -> &'static [Column]
         Which::Bounds => bound_columns(),
         Which::ZoneBounds => zone_bound_columns(),
     }
+}
+
+/// The columns of a file, as a table is read for them.
+pub(crate) fn wants_of(alloc: Global, which: Which) -> Result<Wants, NoMemory>
+    ensures { IfOk result (λ wants. wants ≡ columns_wanted which) }
+{
+    Wants::of(alloc, columns_of(which))
 }

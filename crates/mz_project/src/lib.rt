@@ -16,8 +16,6 @@ mod project;
 mod region;
 mod sets;
 mod targets;
-#[cfg(test)]
-mod tests;
 
 pub use fault::{InputFault, ReadFault, What, Which};
 pub use input_files::{file_word, push_column_name};

@@ -8,13 +8,10 @@ mod narrow;
 mod rates;
 mod weights;
 
-pub(crate) use amounts::{Holdings, limited_amounts};
+pub(crate) use amounts::{AmountsByFeature, limited_amounts};
 pub(crate) use costs::limited_costs;
 pub(crate) use gains::limited_gains;
 pub(crate) use lengths::{Lengths, limited_lengths, limited_terms};
 pub(crate) use levels::limited_levels;
 pub(crate) use rates::limited_rates;
 pub(crate) use weights::weighed_rows;
-
-/// The greatest value of a quantity.
-const LIMIT: u64 = 1_000_000_000_000_000_000;

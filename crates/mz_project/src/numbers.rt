@@ -93,12 +93,12 @@ fn limited_target_numbers(alloc: Global, region: &Region) -> Result<TargetNumber
     requires costs { costs_are_above region.now.area ≡ false }
     ensures { TargetsJudged region.now result }
 {
-    let holdings = limited_amounts(alloc, region)?;
-    limited_gains(region, &holdings)?;
-    let levels = limited_levels(alloc, region, &holdings)?;
-    let rows = weighed_rows(alloc, region, &holdings, levels.as_slice())?;
+    let by_feature = limited_amounts(alloc, region)?;
+    limited_gains(region, &by_feature)?;
+    let levels = limited_levels(alloc, region, &by_feature)?;
+    let rows = weighed_rows(alloc, region, &by_feature, levels.as_slice())?;
     Ok(TargetNumbers {
-        amounts: holdings.amounts,
+        amounts: by_feature.amounts,
         rows,
     })
 }

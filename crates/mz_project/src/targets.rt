@@ -1,28 +1,28 @@
 //! What is asked of a plan: the features, what of them each unit has, and the zone targets.
-ghost use Rattle.std.specs.Prelude.{◌≡◌, ◌≤◌, IfOk, length};
-ghost use Rattle.std.specs.List.{All};
+ghost use Rattle.std.specs.Prelude.{◌≡◌, ◌≤◌, [], IfOk, length};
+ghost use Rattle.mz_num.specs.Limits.{most_zones};
 ghost use Rattle.mz_rows.specs.ByZone.{AreByZone};
 ghost use Rattle.mz_targets.specs.Amounts.{AreAmounts, amounts_of};
 ghost use Rattle.mz_targets.specs.Contribs.{fractions_of};
 ghost use Rattle.mz_targets.specs.Features.{IsFeatureList, features_of};
 ghost use Rattle.mz_targets.specs.ZoneTargets.{AreZoneTargets, zone_targets_of};
+ghost use Rattle.mz_project.specs.Defaults.{ones_outside as ones_by_zone};
 ghost use Rattle.mz_project.specs.Fits.{FitsArea, FitsTargets};
 ghost use Rattle.mz_project.specs.ReadAs.{ReadAs, TakenAs};
-ghost use Rattle.mz_project.specs.Reads.{of_rows};
+ghost use Rattle.mz_project.specs.Reads.{IsWide, made_or};
 ghost use Rattle.mz_project.specs.Targets.{amounts_read, features_read, fractions_read, no_features as none_of_features, targets_read, zone_targets_read};
 ghost use Rattle.mz_project.specs.declared.fault.Which.TheVariants as file;
 
 use crate::area::Area;
 use crate::defaults::ones_outside;
 use crate::fault::{ReadFault, Which, row_fault};
-use crate::file::read_table;
+use crate::file::given_table;
 use mz_num::{Items, NoMemory};
 use mz_params::Params;
 use mz_shelf::Shelf;
 use mz_tables::{Ids, Table};
 use mz_targets::{
     FeatureList, ZoneTarget, read_amounts, read_contribs, read_features, read_zone_targets,
-    wants_amounts, wants_contribs, wants_features, wants_zone_targets,
 };
 use std::alloc::Global;
 
@@ -71,25 +71,21 @@ fn features<S: Shelf>(
     ensures read { ReadAs (features_read params.now) (S.state shelf.old) (S.state shelf.new) result }
     ensures fit { IfOk result IsFeatureList }
 {
-    match &params.features {
-        Some(name) => {
-            let wants = wants_features(alloc)?;
-            let folder = params.input_dir.as_str();
-            let table = read_table(alloc, shelf, folder, name.as_str(), Which::Features, &wants)?;
-            features_in(alloc, &table)
-        }
-        None => Ok(no_features(alloc)?),
-    }
+    let table = given_table(alloc, shelf, params, Which::Features)?;
+    features_in(alloc, &table)
 }
 
-fn features_in(alloc: Global, table: &Table) -> Result<FeatureList, ReadFault>
-    requires { All (λ row. length row ≡ 9) table.now }
-    ensures taken { TakenAs (of_rows file.Features (features_of table.now)) result }
+fn features_in(alloc: Global, table: &Option<Table>) -> Result<FeatureList, ReadFault>
+    requires { IsWide 9 table.now }
+    ensures taken { TakenAs (made_or file.Features none_of_features features_of table.now) result }
     ensures fit { IfOk result IsFeatureList }
 {
-    match read_features(alloc, table) {
-        Ok(features) => Ok(features),
-        Err(fault) => Err(row_fault(Which::Features, fault)),
+    match table {
+        Some(table) => match read_features(alloc, table) {
+            Ok(features) => Ok(features),
+            Err(fault) => Err(row_fault(Which::Features, fault)),
+        },
+        None => Ok(no_features(alloc)?),
     }
 }
 
@@ -115,30 +111,26 @@ fn amounts<S: Shelf>(
     ensures read { ReadAs (amounts_read params.now area.now features.now) (S.state shelf.old) (S.state shelf.new) result }
     ensures fit { IfOk result (AreAmounts (length area.now.units.ids) (length features.now.ids)) }
 {
-    match &params.amounts {
-        Some(name) => {
-            let wants = wants_amounts(alloc)?;
-            let folder = params.input_dir.as_str();
-            let table = read_table(alloc, shelf, folder, name.as_str(), Which::Amounts, &wants)?;
-            amounts_in(alloc, &table, &area.units.ids, &features.ids)
-        }
-        None => Ok(Items::new(Vec::new(alloc))),
-    }
+    let table = given_table(alloc, shelf, params, Which::Amounts)?;
+    amounts_in(alloc, &table, &area.units.ids, &features.ids)
 }
 
 fn amounts_in(
     alloc: Global,
-    table: &Table,
+    table: &Option<Table>,
     units: &Ids,
     features: &Ids,
 ) -> Result<Items<(u32, u32, u128)>, ReadFault>
-    requires { All (λ row. length row ≡ 3) table.now }
-    ensures taken { TakenAs (of_rows file.Amounts (amounts_of units.now features.now table.now)) result }
+    requires { IsWide 3 table.now }
+    ensures taken { TakenAs (made_or file.Amounts [] (amounts_of units.now features.now) table.now) result }
     ensures fit { IfOk result (AreAmounts (length units.now) (length features.now)) }
 {
-    match read_amounts(alloc, table, units, features) {
-        Ok(amounts) => Ok(Items::new(amounts)),
-        Err(fault) => Err(row_fault(Which::Amounts, fault)),
+    match table {
+        Some(table) => match read_amounts(alloc, table, units, features) {
+            Ok(amounts) => Ok(Items::new(amounts)),
+            Err(fault) => Err(row_fault(Which::Amounts, fault)),
+        },
+        None => Ok(Items::new(Vec::new(alloc))),
     }
 }
 
@@ -150,40 +142,38 @@ fn fractions<S: Shelf>(
     area: &Area,
     features: &FeatureList,
 ) -> Result<Items<u64>, ReadFault>
-    requires { length area.now.zones.ids ≤ 60 }
+    requires { length area.now.zones.ids ≤ most_zones }
     ensures read { ReadAs (fractions_read params.now area.now features.now) (S.state shelf.old) (S.state shelf.new) result }
     ensures fit { IfOk result (AreByZone (length area.now.zones.ids) (length features.now.ids)) }
 {
-    match &params.contribs {
-        Some(name) => {
-            let wants = wants_contribs(alloc)?;
-            let folder = params.input_dir.as_str();
-            let table = read_table(alloc, shelf, folder, name.as_str(), Which::Contribs, &wants)?;
-            fractions_in(alloc, &table, &area.zones.ids, &features.ids)
-        }
-        None => Ok(ones_outside(
-            alloc,
-            area.zones.ids.len(),
-            features.ids.len(),
-            area.available,
-        )?),
-    }
+    let table = given_table(alloc, shelf, params, Which::Contribs)?;
+    fractions_in(
+        alloc,
+        &table,
+        &area.zones.ids,
+        &features.ids,
+        area.available,
+    )
 }
 
 fn fractions_in(
     alloc: Global,
-    table: &Table,
+    table: &Option<Table>,
     zones: &Ids,
     features: &Ids,
+    available: u8,
 ) -> Result<Items<u64>, ReadFault>
-    requires zones { length zones.now ≤ 60 }
-    requires wide { All (λ row. length row ≡ 3) table.now }
-    ensures taken { TakenAs (of_rows file.Contribs (fractions_of zones.now features.now table.now)) result }
+    requires zones { length zones.now ≤ most_zones }
+    requires wide { IsWide 3 table.now }
+    ensures taken { TakenAs (made_or file.Contribs (ones_by_zone (length zones.now) (length features.now) available) (fractions_of zones.now features.now) table.now) result }
     ensures fit { IfOk result (AreByZone (length zones.now) (length features.now)) }
 {
-    match read_contribs(alloc, table, zones, features) {
-        Ok(fractions) => Ok(Items::new(fractions)),
-        Err(fault) => Err(row_fault(Which::Contribs, fault)),
+    match table {
+        Some(table) => match read_contribs(alloc, table, zones, features) {
+            Ok(fractions) => Ok(Items::new(fractions)),
+            Err(fault) => Err(row_fault(Which::Contribs, fault)),
+        },
+        None => Ok(ones_outside(alloc, zones.len(), features.len(), available)?),
     }
 }
 
@@ -195,35 +185,30 @@ fn zone_targets<S: Shelf>(
     area: &Area,
     features: &FeatureList,
 ) -> Result<Items<ZoneTarget>, ReadFault>
-    requires { length area.now.zones.ids ≤ 60 }
+    requires { length area.now.zones.ids ≤ most_zones }
     ensures read { ReadAs (zone_targets_read params.now area.now features.now) (S.state shelf.old) (S.state shelf.new) result }
     ensures fit { IfOk result (AreZoneTargets (length area.now.zones.ids) (length features.now.ids)) }
 {
-    match &params.zone_targets {
-        Some(name) => {
-            let wants = wants_zone_targets(alloc)?;
-            let folder = params.input_dir.as_str();
-            let name = name.as_str();
-            let table = read_table(alloc, shelf, folder, name, Which::ZoneTargets, &wants)?;
-            zone_targets_in(alloc, &table, &area.zones.ids, &features.ids)
-        }
-        None => Ok(Items::new(Vec::new(alloc))),
-    }
+    let table = given_table(alloc, shelf, params, Which::ZoneTargets)?;
+    zone_targets_in(alloc, &table, &area.zones.ids, &features.ids)
 }
 
 fn zone_targets_in(
     alloc: Global,
-    table: &Table,
+    table: &Option<Table>,
     zones: &Ids,
     features: &Ids,
 ) -> Result<Items<ZoneTarget>, ReadFault>
-    requires zones { length zones.now ≤ 60 }
-    requires wide { All (λ row. length row ≡ 4) table.now }
-    ensures taken { TakenAs (of_rows file.ZoneTargets (zone_targets_of zones.now features.now table.now)) result }
+    requires zones { length zones.now ≤ most_zones }
+    requires wide { IsWide 4 table.now }
+    ensures taken { TakenAs (made_or file.ZoneTargets [] (zone_targets_of zones.now features.now) table.now) result }
     ensures fit { IfOk result (AreZoneTargets (length zones.now) (length features.now)) }
 {
-    match read_zone_targets(alloc, table, zones, features) {
-        Ok(targets) => Ok(Items::new(targets)),
-        Err(fault) => Err(row_fault(Which::ZoneTargets, fault)),
+    match table {
+        Some(table) => match read_zone_targets(alloc, table, zones, features) {
+            Ok(targets) => Ok(Items::new(targets)),
+            Err(fault) => Err(row_fault(Which::ZoneTargets, fault)),
+        },
+        None => Ok(Items::new(Vec::new(alloc))),
     }
 }

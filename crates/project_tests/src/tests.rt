@@ -6,8 +6,8 @@ mod reads;
 mod scores;
 mod target_faults;
 
-use crate::{InputFault, ReadFault, read_params, read_project};
 use mz_model::Problem;
+use mz_project::{InputFault, ReadFault, read_params, read_project};
 use mz_shelf::MemShelf;
 use std::alloc::Global;
 use std::test::Fail;

@@ -1,9 +1,10 @@
 //! The amounts of features, their totals, and the limit of a total.
 ghost use Rattle.std.specs.Prelude.{◌≡◌, ◌≤◌, [], IfOk, length, slice_index_or};
 ghost use Rattle.std.specs.List.{All, sum_by};
+ghost use Rattle.mz_num.specs.Limits.{most_amount_rows};
 ghost use Rattle.mz_num.specs.Places.{list_below};
 ghost use Rattle.mz_project.specs.Fits.{FitsRegion};
-ghost use Rattle.mz_project.specs.Holdings.{holdings_of};
+ghost use Rattle.mz_project.specs.AmountsByFeature.{amounts_by_feature};
 ghost use Rattle.mz_project.specs.Limits.{Limited, totals_are_above};
 ghost use Rattle.mz_project.specs.declared.fault.What.TheVariants as what;
 
@@ -16,7 +17,7 @@ use std::alloc::Global;
 
 /// The amounts of all features, and those of each.
 #[derive(Drop)]
-pub(crate) struct Holdings {
+pub(crate) struct AmountsByFeature {
     /// Unit, feature and amount, by place, in order.
     pub(crate) amounts: Items<(u32, u32, u64)>,
     /// The units that hold each feature, with their amounts.
@@ -26,9 +27,9 @@ pub(crate) struct Holdings {
 }
 
 /// The amounts and totals in 64 bits, unless a total is above the limit.
-pub(crate) fn limited_amounts(alloc: Global, region: &Region) -> Result<Holdings, ReadFault>
+pub(crate) fn limited_amounts(alloc: Global, region: &Region) -> Result<AmountsByFeature, ReadFault>
     requires { FitsRegion region.now }
-    ensures { Limited what.Amount (totals_are_above region.now.targets) (holdings_of region.now.targets) result }
+    ensures { Limited what.Amount (totals_are_above region.now.targets) (amounts_by_feature region.now.targets) result }
 {
     let targets = &region.targets;
     let Some(amounts) = narrowed_rows(alloc, targets.amounts.as_slice())? else {
@@ -40,7 +41,7 @@ pub(crate) fn limited_amounts(alloc: Global, region: &Region) -> Result<Holdings
     let Some(totals) = narrowed(alloc, &totals)? else {
         return Err(ReadFault::Input(InputFault::Sum(What::Amount)));
     };
-    Ok(Holdings {
+    Ok(AmountsByFeature {
         amounts: Items::new(amounts),
         holders,
         totals: Items::new(totals),
@@ -54,7 +55,7 @@ fn totals_of(
     features: u32,
 ) -> Result<Vec<u128>, NoMemory>
     requires all { features ≤ length holders.now }
-    requires few { All (λ list. length list ≤ 5000000) holders.now }
+    requires few { All (λ list. length list ≤ most_amount_rows) holders.now }
     ensures { IfOk result (λ totals. totals.items ≡ list_below features (λ feature. sum_by (λ holder. holder.1) (slice_index_or holders.now feature []))) }
 {
     let mut totals = Vec::new(alloc);
@@ -66,7 +67,7 @@ fn totals_of(
 
 /// The sum of the amounts of the units that hold a feature.
 fn total(holders: &[(u32, u64)]) -> u128
-    requires { length holders.now ≤ 5000000 }
+    requires { length holders.now ≤ most_amount_rows }
     ensures { result ≡ sum_by (λ holder. holder.1) holders.now }
 {
     let mut total = 0u128;

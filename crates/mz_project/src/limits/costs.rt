@@ -7,11 +7,11 @@ ghost use Rattle.mz_project.specs.Limits.{Limited, costs_are_above};
 ghost use Rattle.mz_project.specs.Parts.{terms_of};
 ghost use Rattle.mz_project.specs.declared.fault.What.TheVariants as what;
 
-use super::LIMIT;
 use super::narrow::narrowed;
 use crate::area::Area;
 use crate::fault::{InputFault, ReadFault, What};
 use mz_num::Items;
+use mz_num::limits::GREATEST_QUANTITY;
 use mz_units::cost_terms;
 use std::alloc::Global;
 
@@ -29,7 +29,7 @@ pub(crate) fn limited_costs(alloc: Global, area: &Area) -> Result<Items<u64>, Re
     };
     let raw = total(area.units.costs.as_slice());
     let greatest = greatest_cost(&terms, area.units.ids.len(), zones);
-    if raw.max(greatest) > u128::from(LIMIT) {
+    if raw.max(greatest) > u128::from(GREATEST_QUANTITY) {
         return Err(ReadFault::Input(InputFault::Sum(What::Cost)));
     }
     Ok(Items::new(terms))

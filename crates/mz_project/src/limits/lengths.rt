@@ -1,6 +1,7 @@
 //! The lengths of boundaries and their terms under the greatest rate, and their limits.
-ghost use Rattle.std.specs.Prelude.{◌≡◌, ◌*◌, ◌^◌, length, slice_index};
+ghost use Rattle.std.specs.Prelude.{◌≡◌, ◌*◌, length, slice_index};
 ghost use Rattle.std.specs.List.{list_any};
+ghost use Rattle.mz_num.specs.Limits.{million};
 ghost use Rattle.mz_num.specs.Round.{round};
 ghost use Rattle.mz_num.specs.Places.{greatest_below};
 ghost use Rattle.mz_project.specs.Limits.{Limited, is_above, lengths_are_above, terms_are_above};
@@ -63,20 +64,20 @@ fn greatest_rate(rates: &[u64]) -> u64
 }
 
 fn some_edge_is_above(edges: &[(u32, u32, u64)], rate: u64) -> bool
-    ensures { result ≡ list_any (λ edge. is_above (round (edge.2 * rate) (10 ^ 6))) edges.now }
+    ensures { result ≡ list_any (λ edge. is_above (round (edge.2 * rate) million)) edges.now }
 {
     edges.iter().any(|edge| term_is_above(edge.2, rate))
 }
 
 fn some_outer_is_above(lengths: &[u64], rate: u64) -> bool
-    ensures { result ≡ list_any (λ length. is_above (round (length * rate) (10 ^ 6))) lengths.now }
+    ensures { result ≡ list_any (λ length. is_above (round (length * rate) million)) lengths.now }
 {
     lengths.iter().any(|length| term_is_above(*length, rate))
 }
 
 /// Whether the rounded term of a length is above the limit.
 fn term_is_above(length: u64, rate: u64) -> bool
-    ensures { result ≡ is_above (round (length * rate) (10 ^ 6)) }
+    ensures { result ≡ is_above (round (length * rate) million) }
 {
     u128::from(length) * u128::from(rate) >= ROUNDED_ABOVE
 }

@@ -1,14 +1,15 @@
 //! The levels of target rows, and their limit.
-ghost use Rattle.std.specs.Prelude.{◌≡◌, ◌≤◌, ◌^◌, ◌++◌, false, length, map, nat_lt, if◌then◌else◌, OnOk};
+ghost use Rattle.std.specs.Prelude.{◌≡◌, ◌≤◌, ◌++◌, false, length, map, nat_lt, if◌then◌else◌, OnOk};
+ghost use Rattle.mz_num.specs.Limits.{greatest_quantity};
 ghost use Rattle.mz_num.specs.Places.{list_below};
 ghost use Rattle.mz_targets.specs.Level.{level};
 ghost use Rattle.mz_project.specs.Fits.{FitsRegion};
-ghost use Rattle.mz_project.specs.Holdings.{holdings_of};
+ghost use Rattle.mz_project.specs.AmountsByFeature.{amounts_by_feature};
 ghost use Rattle.mz_project.specs.Limits.{Limited, levels_are_above, totals_are_above};
 ghost use Rattle.mz_project.specs.Parts.{levels_of, overall_level as level_of_feature, zone_level};
 ghost use Rattle.mz_project.specs.declared.fault.What.TheVariants as what;
 
-use super::amounts::Holdings;
+use super::amounts::AmountsByFeature;
 use super::narrow::narrowed;
 use crate::fault::{InputFault, ReadFault, What};
 use crate::region::Region;
@@ -20,15 +21,15 @@ use std::alloc::Global;
 pub(crate) fn limited_levels(
     alloc: Global,
     region: &Region,
-    holdings: &Holdings,
+    by_feature: &AmountsByFeature,
 ) -> Result<Items<u64>, ReadFault>
     requires fit { FitsRegion region.now }
-    requires holdings { holdings.now ≡ holdings_of region.now.targets }
+    requires by_feature { by_feature.now ≡ amounts_by_feature region.now.targets }
     requires totals { totals_are_above region.now.targets ≡ false }
     ensures { Limited what.Level (levels_are_above region.now.targets) (levels_of region.now.targets) result }
 {
     let mut levels = Vec::new(alloc);
-    let totals = holdings.totals.as_slice();
+    let totals = by_feature.totals.as_slice();
     push_overall_levels(&mut levels, region, totals)?;
     push_zone_levels(&mut levels, region, totals)?;
     let Some(levels) = narrowed(alloc, &levels)? else {
@@ -44,7 +45,7 @@ fn push_overall_levels(
     totals: &[u64],
 ) -> Result<(), NoMemory>
     requires fit { FitsRegion region.now }
-    requires totals { totals.now ≡ (holdings_of region.now.targets).totals }
+    requires totals { totals.now ≡ (amounts_by_feature region.now.targets).totals }
     requires small { totals_are_above region.now.targets ≡ false }
     ensures { OnOk result (levels.new.items ≡ levels.old.items ++ list_below (length region.now.targets.features.ids) (level_of_feature region.now.targets)) }
 {
@@ -57,9 +58,9 @@ fn push_overall_levels(
 
 /// The level of a feature with this total.
 fn overall_level(feature: Feature, total: u64) -> u128
-    requires target { feature.target ≤ 10 ^ 18 }
-    requires prop { feature.prop ≤ 10 ^ 18 }
-    requires total { total ≤ 10 ^ 18 }
+    requires target { feature.target ≤ greatest_quantity }
+    requires prop { feature.prop ≤ greatest_quantity }
+    requires total { total ≤ greatest_quantity }
     ensures { result ≡ level (if nat_lt 0 feature.prop then feature.prop else feature.target) total (nat_lt 0 feature.prop) }
 {
     if feature.prop > 0 {
@@ -72,7 +73,7 @@ fn overall_level(feature: Feature, total: u64) -> u128
 /// Appends the level of each zone target.
 fn push_zone_levels(levels: &mut Vec<u128>, region: &Region, totals: &[u64]) -> Result<(), NoMemory>
     requires fit { FitsRegion region.now }
-    requires totals { totals.now ≡ (holdings_of region.now.targets).totals }
+    requires totals { totals.now ≡ (amounts_by_feature region.now.targets).totals }
     requires small { totals_are_above region.now.targets ≡ false }
     ensures { OnOk result (levels.new.items ≡ levels.old.items ++ map (zone_level region.now.targets) region.now.targets.zone_targets) }
 {

@@ -1,6 +1,7 @@
 //! The rates of boundaries between zones, and their limit.
-ghost use Rattle.std.specs.Prelude.{◌≤◌, ◌^◌, map};
+ghost use Rattle.std.specs.Prelude.{◌≤◌, map};
 ghost use Rattle.std.specs.List.{All};
+ghost use Rattle.mz_num.specs.Limits.{greatest_quantity};
 ghost use Rattle.mz_bounds.specs.Rates.{rate};
 ghost use Rattle.mz_project.specs.Limits.{Limited, rates_are_above};
 ghost use Rattle.mz_project.specs.declared.fault.What.TheVariants as what;
@@ -18,7 +19,7 @@ pub(crate) fn limited_rates(
     costs: &[u64],
     modifier: Mic6,
 ) -> Result<Items<u64>, ReadFault>
-    requires { All (λ cost. cost ≤ 10 ^ 18) costs.now }
+    requires { All (λ cost. cost ≤ greatest_quantity) costs.now }
     ensures { Limited what.Rate (rates_are_above (map (rate modifier) costs.now)) (map (rate modifier) costs.now) result }
 {
     let rates = rates(alloc, costs, modifier)?;

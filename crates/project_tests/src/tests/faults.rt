@@ -1,8 +1,8 @@
 //! Why projects are refused.
 use super::{UNITS, fault_of, read, shelf_of};
-use crate::{InputFault, ReadFault, What, Which};
 use mz_num::NumFault;
 use mz_params::{Key, ParamFault};
+use mz_project::{InputFault, ReadFault, What, Which};
 use mz_tables::{RowFault, TableFault};
 use std::alloc::Global;
 use std::test::Fail;
@@ -263,6 +263,11 @@ fn costs_have_a_limit(rt: HostRuntime) -> Result<(), Fail> {
         ),
         (
             "id,cost\n1,50000000000000\n2,50000000000000.0001\n",
+            "zoneid,costid,multiplier\n",
+            above,
+        ),
+        (
+            "id,cost\n1,50000000000000\n2,50000000000000\n3,50000000000000\n",
             "zoneid,costid,multiplier\n",
             above,
         ),

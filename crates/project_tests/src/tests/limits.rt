@@ -1,6 +1,6 @@
 //! The limits of a project's quantities, each at its limit and above it.
 use super::{AMOUNTS, UNITS, fault_of};
-use crate::{InputFault, What};
+use mz_project::{InputFault, What};
 use std::alloc::Global;
 use std::test::Fail;
 
@@ -166,24 +166,38 @@ fn weights_have_a_limit(rt: HostRuntime) -> Result<(), Fail> {
 /// The costs come before the boundaries, these before the amounts, and the weights last.
 #[test]
 fn limits_are_tested_in_order(rt: HostRuntime) -> Result<(), Fail> {
-    let dear = ("pu.dat", "id,cost\n1,100000000000000\n2,1\n");
-    let cheap = ("pu.dat", "id,cost\n1,10\n2,1\n");
-    let many = ("a", "species,pu,amount\n1,1,100000000000000\n1,2,1\n");
-    let few = ("a", "species,pu,amount\n1,1,1\n");
+    let dear = "id,cost\n1,100000000000000\n2,1\n";
+    let cheap = "id,cost\n1,200\n2,1\n";
+    let many = "species,pu,amount\n1,1,100000000000000\n1,2,1\n";
+    let few = "species,pu,amount\n1,1,1\n";
+    let long = "id1,id2,boundary\n1,2,100000000000000\n1,2,1\n";
+    let short = "id1,id2,boundary\n1,2,1\n";
     let table = [
-        (dear, many, InputFault::Sum(What::Cost)),
-        (cheap, many, InputFault::Sum(What::Boundary)),
-        (cheap, few, InputFault::Sum(What::Boundary)),
+        (dear, long, many, InputFault::Sum(What::Cost)),
+        (cheap, long, many, InputFault::Sum(What::Boundary)),
+        (cheap, long, few, InputFault::Sum(What::Boundary)),
+        (cheap, short, many, InputFault::Sum(What::Amount)),
+        (cheap, short, few, InputFault::Weight(1)),
     ];
-    for (units, amounts, fault) in table {
-        let files = [
-            units,
-            ("f", "id\n1\n"),
-            amounts,
-            ("b", "id1,id2,boundary\n1,2,100000000000000\n1,2,1\n"),
-        ];
-        let lines = "FEATNAME f\nPUVSFEATNAME a\nBOUNDNAME b";
-        assert!(rt; fault_of(rt.alloc(), lines, &files)? == Some(fault));
+    for (units, bounds, amounts, fault) in table {
+        let found = refused_first(rt.alloc(), units, bounds, amounts)?;
+        assert!(rt; found == Some(fault), "{units} {bounds} {amounts}");
     }
     Ok(())
+}
+
+/// Why a project is refused whose one feature weighs too much, by its units, boundaries and amounts.
+fn refused_first<'a>(
+    alloc: Global,
+    units: &'a str,
+    bounds: &'a str,
+    amounts: &'a str,
+) -> Result<Option<InputFault>, Fail> {
+    let files = [
+        ("pu.dat", units),
+        ("f", "id,target,spf\n1,1,1000000000000\n"),
+        ("a", amounts),
+        ("b", bounds),
+    ];
+    fault_of(alloc, "FEATNAME f\nPUVSFEATNAME a\nBOUNDNAME b", &files)
 }

@@ -1,5 +1,6 @@
 //! What accepted projects are.
 use super::{UNITS, read, shelf_of};
+use mz_model::Problem;
 use std::alloc::Global;
 use std::test::Fail;
 
@@ -88,5 +89,32 @@ fn a_project_may_have_no_units(rt: HostRuntime) -> Result<(), Fail> {
         counts(rt.alloc(), "", &[("pu.dat", "id,cost\n")])?,
         Some((0, 0))
     );
+    Ok(())
+}
+
+/// How many neighbours the first unit has, and the length to the first of them, in ten-thousandths.
+fn neighbours_of_first(alloc: Global, bounds: &str) -> Result<Option<(usize, u64)>, Fail> {
+    let mut shelf = shelf_of(alloc, "BOUNDNAME b", &[UNITS, ("b", bounds)])?;
+    match read(alloc, &mut shelf) {
+        Ok(problem) => Ok(first_length(&problem)),
+        Err(_) => Ok(None),
+    }
+}
+
+fn first_length(problem: &Problem) -> Option<(usize, u64)> {
+    if problem.units() == 0 {
+        return None;
+    }
+    let count = problem.neighbours(0).len();
+    if count == 0 {
+        return None;
+    }
+    Some((count, problem.neighbour(0, 0).1))
+}
+
+#[test]
+fn two_rows_of_a_pair_are_one_pair(rt: HostRuntime) -> Result<(), Fail> {
+    let bounds = "id1,id2,boundary\n1,2,3\n2,1,2\n";
+    assert_eq!(rt; neighbours_of_first(rt.alloc(), bounds)?, Some((1, 50_000)));
     Ok(())
 }

@@ -1,6 +1,6 @@
 //! Which files are read, and in which order: where call number `call` fails, the name is that of its file.
 use super::{UNITS, put_files, read};
-use crate::ReadFault;
+use mz_project::ReadFault;
 use mz_shelf::MemShelf;
 use std::alloc::Global;
 use std::test::Fail;

@@ -1,7 +1,7 @@
 //! Why files of features, amounts, contributions, zone targets and boundaries are refused.
 use super::{AMOUNTS, FEATURES, UNITS, fault_of, put_files, read};
-use crate::{InputFault, Which};
 use mz_num::NumFault;
+use mz_project::{InputFault, Which};
 use mz_shelf::MemShelf;
 use mz_tables::{RowFault, TableFault};
 use std::alloc::Global;

@@ -1,5 +1,5 @@
 use Rattle.std.proofs.Common.{refl, ◌∙◌, arith}
-use Rattle.mz_project.proofs.AmountLemmas.{amount-above, few-at, holders-are, in-holders, same_holdings, total-above, totals-are, totals-within}
+use Rattle.mz_project.proofs.AmountLemmas.{amount-above, few-at, holders-are, in-holders, same_by_feature, total-above, totals-are, totals-within}
 use Rattle.mz_project.proofs.limits.amounts.limited_amounts.Goals as goal
 
 pub returns-in_default : goal.returns-in_default
@@ -32,4 +32,4 @@ returns c =
     let holders = holders-are targets _ _ _ (c.deref.ensures.value ∙ narrow.0 ∙ c.as_slice.ensures) c.len-features.ensures.len c.in_ok-holders.ensures in
     let small = rw c.in-Some-2.is at c.in_ok-totals-2.ensures in
     let totals = small.0 ∙ c.deref-2.ensures.value ∙ totals-are targets _ _ _ holders c.len-features.ensures.len c.in_ok-totals.ensures in
-    (totals-within targets _ totals small.1, same_holdings targets _ _ _ (c.new.ensures ∙ narrow.0 ∙ c.as_slice.ensures) holders (c.new-2.ensures ∙ totals))
+    (totals-within targets _ totals small.1, same_by_feature targets _ _ _ (c.new.ensures ∙ narrow.0 ∙ c.as_slice.ensures) holders (c.new-2.ensures ∙ totals))
