@@ -2,6 +2,7 @@ pub mod AmountLaws
 pub mod BuildLaws
 pub mod Checked
 pub mod ExampleLaws
+pub mod FillingLaws
 pub mod GroupLaws
 pub mod LimitLaws
 pub mod ListLaws

@@ -5,16 +5,17 @@ ghost use Rattle.std.specs.List.{All};
 ghost use Rattle.mz_model.specs.Amounts.{holders_of};
 ghost use Rattle.mz_model.specs.Boundary.{neighbours_of};
 ghost use Rattle.mz_model.specs.Built.{greatest_part_of, touching};
-ghost use Rattle.mz_model.specs.Groups.{filled};
+ghost use Rattle.mz_model.specs.Groups.{HasRoom, counts_with, filled};
 ghost use Rattle.mz_model.specs.Parts.{unit_count, zone_count, feature_count, target_count};
 ghost use Rattle.mz_num.specs.Places.{list_below, places_below};
 ghost use Rattle.mz_model.specs.Targets.{touches_of};
 ghost use Rattle.mz_model.specs.Valid.{IsInShape, IsValid};
 ghost use Rattle.mz_model.specs.Zones.{allowed_zones, counts_of, free_units};
 
+use crate::count::count_one;
+use crate::filling::Filling;
 use crate::groups::Groups;
 use crate::holders::holders_by_feature;
-use crate::lists::Lists;
 use crate::parts::{Parts, Target};
 use crate::problem::Problem;
 use mz_num::NoMemory;
@@ -116,13 +117,28 @@ fn neighbours_by_unit(alloc: Global, parts: &Parts) -> Result<Groups<(u32, u64)>
     requires { IsValid parts.now }
     ensures { IfOk result (λ neighbours. neighbours ≡ list_below (unit_count parts.now) (neighbours_of parts.now)) }
 {
-    let mut lists = Lists::new(alloc, parts.unit_ids.len())?;
+    let counts = neighbour_counts(alloc, parts)?;
+    let mut lists = Filling::new(alloc, counts.as_slice(), (0, 0))?;
     let edges = parts.edges.as_slice();
     for (first, second, len) in edges {
-        lists.push(*first as usize, (*second, *len))?;
-        lists.push(*second as usize, (*first, *len))?;
+        lists.push(*first as usize, (*second, *len));
+        lists.push(*second as usize, (*first, *len));
     }
-    lists.compressed(alloc)
+    Ok(lists.full())
+}
+
+/// How many neighbours each unit has.
+fn neighbour_counts(alloc: Global, parts: &Parts) -> Result<Vec<usize>, NoMemory>
+    requires { IsValid parts.now }
+    ensures { IfOk result (λ counts. counts.items ≡ map length (list_below (unit_count parts.now) (neighbours_of parts.now))) }
+{
+    let mut counts = vec![in alloc; 0usize; parts.unit_ids.len()]?;
+    let edges = parts.edges.as_slice();
+    for edge in edges {
+        count_one(&mut counts, edge.0 as usize)?;
+        count_one(&mut counts, edge.1 as usize)?;
+    }
+    Ok(counts)
 }
 
 /// The target rows for which each unit gains in some zone, in rising order, with its amounts.
@@ -135,13 +151,33 @@ fn touches_by_unit(
     requires holders { holders.now ≡ list_below (feature_count parts.now) (holders_of parts.now.amounts) }
     ensures { IfOk result (λ touches. touches ≡ list_below (unit_count parts.now) (touches_of parts.now)) }
 {
-    let mut lists = Lists::new(alloc, parts.unit_ids.len())?;
+    let counts = touch_counts(alloc, parts, holders)?;
+    let mut lists = Filling::new(alloc, counts.as_slice(), (0, 0))?;
     for row in 0..parts.targets.len() as u32 {
         let target = &parts.targets.as_slice()[row as usize];
         let part = greatest_part(parts, target);
-        add_touches(row, part, holders.at(target.feature as usize), &mut lists)?;
+        add_touches(row, part, holders.at(target.feature as usize), &mut lists);
     }
-    lists.compressed(alloc)
+    Ok(lists.full())
+}
+
+/// For how many target rows each unit gains in some zone.
+fn touch_counts(
+    alloc: Global,
+    parts: &Parts,
+    holders: &Groups<(u32, u64)>,
+) -> Result<Vec<usize>, NoMemory>
+    requires valid { IsValid parts.now }
+    requires holders { holders.now ≡ list_below (feature_count parts.now) (holders_of parts.now.amounts) }
+    ensures { IfOk result (λ counts. counts.items ≡ map length (list_below (unit_count parts.now) (touches_of parts.now))) }
+{
+    let mut counts = vec![in alloc; 0usize; parts.unit_ids.len()]?;
+    for row in 0..parts.targets.len() as u32 {
+        let target = &parts.targets.as_slice()[row as usize];
+        let part = greatest_part(parts, target);
+        count_touches(part, holders.at(target.feature as usize), &mut counts)?;
+    }
+    Ok(counts)
 }
 
 /// The greatest part of an amount that counts for a row in some zone, in millionths.
@@ -164,18 +200,26 @@ fn greatest_part(parts: &Parts, target: &Target) -> u64
 }
 
 /// Adds the row to the list of each unit whose amount rounds to a gain, with the amount.
-fn add_touches(
-    row: u32,
-    part: u64,
-    holders: &[(u32, u64)],
-    lists: &mut Lists<(u32, u64)>,
-) -> Result<(), NoMemory>
-    requires { All (λ holder. holder.0 < length lists.old) holders.now }
-    ensures { IfOk result (λ _. lists.new ≡ filled lists.old (touching row part holders.now)) }
+fn add_touches(row: u32, part: u64, holders: &[(u32, u64)], lists: &mut Filling<(u32, u64)>)
+    requires inside { All (λ holder. holder.0 < length lists.old.lists) holders.now }
+    requires room { HasRoom lists.old (touching row part holders.now) }
+    ensures { lists.new ≡ record lists.old { lists = filled lists.old.lists (touching row part holders.now) } }
 {
     for (unit, amount) in holders {
         if *amount as u128 * part as u128 >= 500_000 {
-            lists.push(*unit as usize, (row, *amount))?;
+            lists.push(*unit as usize, (row, *amount));
+        }
+    }
+}
+
+/// Counts a row at each unit whose amount rounds to a gain.
+fn count_touches(part: u64, holders: &[(u32, u64)], counts: &mut Vec<usize>) -> Result<(), NoMemory>
+    requires { All (λ holder. holder.0 < length counts.old.items) holders.now }
+    ensures { IfOk result (λ _. counts.new.items ≡ counts_with counts.old.items (touching 0 part holders.now)) }
+{
+    for (unit, amount) in holders {
+        if *amount as u128 * part as u128 >= 500_000 {
+            count_one(counts, *unit as usize)?;
         }
     }
     Ok(())

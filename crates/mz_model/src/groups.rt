@@ -1,5 +1,6 @@
 //! Many lists in one: the list of each place, one behind the other.
 ghost use Rattle.std.specs.Prelude.{◌≡◌, ◌+◌, ◌<◌, ◌^◌, ◌++◌, ◌∷◌, [], IfOk, OnErr, length, slice_index, slice_index_or, slice_range, ◌≤◌};
+ghost use Rattle.mz_model.specs.Groups.{groups_of, IsCut};
 
 use mz_num::NoMemory;
 use std::alloc::Global;
@@ -35,6 +36,14 @@ impl<T: Copy> Groups<T> {
             starts,
             items: Vec::new(alloc),
         })
+    }
+
+    /// The lists of items that were cut at these starts.
+    pub(crate) fn cut(starts: Vec<usize>, items: Vec<T>) -> Groups<T>
+        requires { IsCut starts.items (length items.items) }
+        ensures { result ≡ groups_of starts.items items.items }
+    {
+        Groups { starts, items }
     }
 
     /// Appends the list of the next place.

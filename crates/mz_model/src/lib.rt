@@ -5,9 +5,10 @@
 #![tactic(auto)]
 
 mod build;
+mod count;
+mod filling;
 mod groups;
 mod holders;
-mod lists;
 mod parts;
 mod plan;
 mod problem;
@@ -21,7 +22,7 @@ pub use parts::{Parts, Target};
 pub use plan::{Plan, PlanFault};
 pub use problem::Problem;
 pub use score::Score;
-pub use scoring::{evaluate, held, short};
+pub use scoring::{evaluate, held, is_met, short};
 
 #[cfg(test)]
 mod tests;

@@ -1,5 +1,5 @@
 //! The problem, and what it is made of by place.
-ghost use Rattle.std.specs.Prelude.{◌≡◌, ◌+◌, ◌*◌, ◌<◌, ◌≤◌, ◌^◌, IfOk, IsTrue, length, slice_index, slice_index_or, slice_get, Some, []};
+ghost use Rattle.std.specs.Prelude.{◌≡◌, ◌+◌, ◌*◌, ◌%◌, ◌<◌, ◌≤◌, ◌^◌, IfOk, IsTrue, length, slice_index, slice_index_or, slice_get, Some, []};
 ghost use Rattle.std.specs.Prelude.{◌==◌};
 ghost use Rattle.std.specs.List.{All, position_or_len};
 ghost use Rattle.mz_model.specs.Amounts.{holders_of};
@@ -9,7 +9,7 @@ ghost use Rattle.mz_model.specs.Targets.{gain_from, gain_of, touched_rows, touch
 ghost use Rattle.mz_model.specs.Scores.{penalty_term_of};
 ghost use Rattle.mz_num.specs.ZoneSet.{IsZoneSet};
 ghost use Rattle.mz_model.specs.Valid.{IsPair, IsValid};
-ghost use Rattle.mz_model.specs.Zones.{is_allowed, free_units, counts_of, step_of};
+ghost use Rattle.mz_model.specs.Zones.{allowed_zones, is_allowed, free_units, counts_of, step_of};
 
 use crate::groups::Groups;
 use crate::parts::{Parts, Target};
@@ -134,6 +134,16 @@ impl Problem {
         zone < 64 && (set >> zone) & 1 == 1
     }
 
+    /// The allowed zones of a unit, in rising order.
+    #[inline]
+    pub fn allowed_zones(&self, unit: u32) -> &[u8]
+        requires { unit < unit_count self.now }
+        ensures zones { result.now ≡ allowed_zones self.now unit }
+        ensures in_range { All (λ zone. zone < zone_count self.now) result.now }
+    {
+        self.zones.at(unit as usize)
+    }
+
     /// The places of the free units, those with two allowed zones or more, in order.
     #[inline]
     pub fn free(&self) -> &[u32]
@@ -235,7 +245,7 @@ impl Problem {
 
     /// The rate of a boundary between two zones, in millionths.
     #[inline]
-    fn rate(&self, k: u8, l: u8) -> u64
+    pub fn rate(&self, k: u8, l: u8) -> u64
         requires first { k < zone_count self.now }
         requires second { l < zone_count self.now }
         ensures rate { result ≡ rate_at self.now k l }
@@ -357,7 +367,7 @@ impl Problem {
     {
         let zones = self.zones.at(unit as usize);
         let place = place_of(zones, zone);
-        zones[(place + shift as usize) % zones.len()]
+        zones[turned(place + shift as usize, zones.len())]
     }
 
     /// The pairs of neighbours, each once.
@@ -410,4 +420,20 @@ fn place_of(zones: &[u8], zone: u8) -> usize
         }
     }
     zones.len()
+}
+
+/// The remainder of a place by a count, without a division where the place is below twice the count.
+#[inline]
+fn turned(place: usize, count: usize) -> usize
+    requires { 0 < count }
+    ensures { result ≡ place % count }
+{
+    if place < count {
+        return place;
+    }
+    let rest = place - count;
+    if rest < count {
+        return rest;
+    }
+    place % count
 }

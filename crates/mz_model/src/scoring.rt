@@ -5,11 +5,12 @@ ghost use Rattle.mz_model.specs.Parts.{unit_count, target_count};
 ghost use Rattle.mz_num.specs.Places.{sum_below};
 ghost use Rattle.mz_model.specs.Plans.{IsLegalPlan};
 ghost use Rattle.mz_model.specs.Scores.{cost_of_plan, outer_term, pair_term, penalty_of_plan, score_of_plan};
-ghost use Rattle.mz_model.specs.Targets.{held_of, shortfall_of};
+ghost use Rattle.mz_model.specs.Targets.{held_of, is_met, shortfall_of};
 
 use crate::plan::Plan;
 use crate::problem::Problem;
 use crate::score::Score;
+use mz_num::Mic6;
 
 /// The score of a plan, in ten-thousandths: its cost, its boundary cost, and the penalties for what it
 /// misses, as in Watts et al. 2009. Each term is rounded half up by itself, which is this project's profile.
@@ -103,4 +104,12 @@ pub fn short(problem: &Problem, t: u32, held: u64) -> u64
     ensures { result ≡ shortfall_of problem.now t held }
 {
     problem.target(t).level.saturating_sub(held)
+}
+
+/// Whether what is held meets a level: whether it reaches the part of the level that `miss_level`
+/// asks. This is the test of a target that is missed in Watts et al. 2009.
+pub fn is_met(miss_level: Mic6, level: u64, held: u64) -> bool
+    ensures { result ≡ is_met miss_level level held }
+{
+    held as u128 * 1_000_000 >= miss_level.0 as u128 * level as u128
 }

@@ -1,37 +1,62 @@
-use Rattle.std.proofs.Common.{◌≡◌, ℕ, ◌+◌, ◌≤◌, ◌<◌, ◌*◌, ◌++◌, ◌∷◌, [], List, ap, sym, ◌∙◌, length, get_or, set, take, arith}
+use Rattle.std.proofs.Common.{◌≡◌, ℕ, ◌+◌, ◌≤◌, ◌<◌, ◌*◌, ◌++◌, ◌∷◌, [], List, ap, sym, ◌∙◌, length, get_or, set, take, drop, arith}
 use Rattle.std.specs.Prelude.{nat_le}
 use Rattle.std.proofs.lemmas.Bool.{cond-true, cond-false, le-leb, lt-leb}
 use Rattle.std.proofs.lemmas.List.{append-nil}
 use Rattle.mz_model.specs.Built.{touching}
-use Rattle.mz_model.specs.Groups.{filled}
-use Rattle.mz_model.proofs.BuildLaws.{filled-none, filled-push, length-filled, touching-more}
+use Rattle.mz_model.specs.Groups.{Filling, HasRoom, filled}
+use Rattle.mz_model.proofs.BuildLaws.{filled-none, filled-push, length-filled, room-next, touching-more, touching-split}
 use Rattle.mz_model.proofs.build.add_touches.Goals as goal
-use Rattle.mz_model.proofs.build.add_touches.Goals.{then-amount-part-ge500000+in_ok-push, else-amount-part-ge500000}
+use Rattle.mz_model.proofs.build.add_touches.Goals.{then-amount-part-ge500000, else-amount-part-ge500000}
 
 -- a holder of enough
-enough : (start lists lists' : List (List (ℕ × ℕ))) (row part i : ℕ) (holders : List (ℕ × ℕ)) → i < length holders → lists ≡ filled start (touching row part (take i holders)) → 500000 ≤ (get_or holders i (0, 0)).1 * part → (get_or holders i (0, 0)).0 < length start → lists' ≡ set lists (get_or holders i (0, 0)).0 (get_or lists (get_or holders i (0, 0)).0 [] ++ (row, (get_or holders i (0, 0)).1) ∷ []) → lists' ≡ filled start (touching row part (take (i + 1) holders))
-enough start lists lists' row part i holders h now much inside pushed =
+entry_more : (row part i : ℕ) (holders : List (ℕ × ℕ)) → i < length holders → 500000 ≤ (get_or holders i (0, 0)).1 * part → touching row part (take (i + 1) holders) ≡ touching row part (take i holders) ++ ((get_or holders i (0, 0)).0, (row, (get_or holders i (0, 0)).1)) ∷ []
+entry_more row part i holders h much =
     let holder : ℕ × ℕ = get_or holders i (0, 0) in
-    filled-push start lists lists' (touching row part (take i holders)) holder.0 (row, holder.1) now inside pushed
-    ∙ ap (filled start) (sym (touching-more row part holders i (0, 0) h ∙ ap (λ es. touching row part (take i holders) ++ es) (cond-true (nat_le 500000 (holder.1 * part)) ((holder.0, (row, holder.1)) ∷ []) [] (le-leb 500000 (holder.1 * part) much))))
+    touching-more row part holders i (0, 0) h ∙ ap (λ es. touching row part (take i holders) ++ es) (cond-true (nat_le 500000 (holder.1 * part)) ((holder.0, (row, holder.1)) ∷ []) [] (le-leb 500000 (holder.1 * part) much))
+
+-- so far: the lists of the start, filled
+abbrev so_far : Filling (ℕ × ℕ) → ℕ → ℕ → List (ℕ × ℕ) → Filling (ℕ × ℕ)
+so_far start row part holders = record start { lists = filled start.lists (touching row part holders) }
+
+enough : (start now one : Filling (ℕ × ℕ)) (row part i : ℕ) (holders : List (ℕ × ℕ)) → i < length holders → now ≡ so_far start row part (take i holders) → 500000 ≤ (get_or holders i (0, 0)).1 * part → (get_or holders i (0, 0)).0 < length start.lists
+    → one ≡ record now { lists = set now.lists (get_or holders i (0, 0)).0 (get_or now.lists (get_or holders i (0, 0)).0 [] ++ (row, (get_or holders i (0, 0)).1) ∷ []) } → one ≡ so_far start row part (take (i + 1) holders)
+enough start now one row part i holders h is much inside pushed =
+    let holder : ℕ × ℕ = get_or holders i (0, 0) in
+    let lists : one.lists ≡ filled start.lists (touching row part (take (i + 1) holders)) =
+    filled-push start.lists now.lists one.lists (touching row part (take i holders)) holder.0 (row, holder.1) (ap (λ (v : Filling (ℕ × ℕ)). v.lists) is) inside (ap (λ (v : Filling (ℕ × ℕ)). v.lists) pushed)
+    ∙ ap (filled start.lists) (sym (entry_more row part i holders h much)) in
+    let room : one.room ≡ start.room = ap (λ (v : Filling (ℕ × ℕ)). v.room) pushed ∙ ap (λ (v : Filling (ℕ × ℕ)). v.room) is in
+    λ k. record { lists = lists k; room = room k }
 
 -- a holder of too little
-little : (start lists : List (List (ℕ × ℕ))) (row part i : ℕ) (holders : List (ℕ × ℕ)) → i < length holders → lists ≡ filled start (touching row part (take i holders)) → (get_or holders i (0, 0)).1 * part < 500000 → lists ≡ filled start (touching row part (take (i + 1) holders))
-little start lists row part i holders h now few =
+little : (start now : Filling (ℕ × ℕ)) (row part i : ℕ) (holders : List (ℕ × ℕ)) → i < length holders → now ≡ so_far start row part (take i holders) → (get_or holders i (0, 0)).1 * part < 500000 → now ≡ so_far start row part (take (i + 1) holders)
+little start now row part i holders h is few =
     let holder : ℕ × ℕ = get_or holders i (0, 0) in
-    now ∙ ap (filled start) (sym (touching-more row part holders i (0, 0) h ∙ ap (λ es. touching row part (take i holders) ++ es) (cond-false (nat_le 500000 (holder.1 * part)) ((holder.0, (row, holder.1)) ∷ []) [] (lt-leb 500000 (holder.1 * part) few)) ∙ append-nil (touching row part (take i holders))))
+    is ∙ ap (λ es. record start { lists = filled start.lists es }) (sym (touching-more row part holders i (0, 0) h ∙ ap (λ es. touching row part (take i holders) ++ es) (cond-false (nat_le 500000 (holder.1 * part)) ((holder.0, (row, holder.1)) ∷ []) [] (lt-leb 500000 (holder.1 * part) few)) ∙ append-nil (touching row part (take i holders))))
+
+room : (start now : Filling (ℕ × ℕ)) (row part i : ℕ) (holders : List (ℕ × ℕ)) → i < length holders → now ≡ so_far start row part (take i holders) → 500000 ≤ (get_or holders i (0, 0)).1 * part → (get_or holders i (0, 0)).0 < length start.lists → HasRoom start (touching row part holders)
+    → length (get_or now.lists (get_or holders i (0, 0)).0 []) < get_or now.room (get_or holders i (0, 0)).0 0
+room start now row part i holders h is much inside has =
+    let holder : ℕ × ℕ = get_or holders i (0, 0) in
+    let next : length (get_or now.lists holder.0 []) < get_or start.room holder.0 0 =
+    room-next start.lists now.lists start.room (touching row part (take i holders)) (touching row part holders) (touching row part (drop (i + 1) holders)) holder.0 (row, holder.1) has
+    (touching-split row part holders i h ∙ ap (λ es. es ++ touching row part (drop (i + 1) holders)) (entry_more row part i holders h much)) (ap (λ (v : Filling (ℕ × ℕ)). v.lists) is) inside in
+    omega (arith, next, ap (λ (v : Filling (ℕ × ℕ)). get_or v.room holder.0 0) is)
 
 pub loop-unit-init : goal.loop-unit-init
-loop-unit-init c = filled-none c.args.lists.now
+loop-unit-init c = ap (λ ls. record c.args.lists.now { lists = ls }) (filled-none c.args.lists.now.lists)
 
-pub push-requires : goal.push-requires
-push-requires c =
-    let inside : (get_or c.args.holders.now c.loop-unit.unit-index (0, 0)).0 < length c.args.lists.now = c.requires c.loop-unit.unit-index (0, 0) (omega arith) in
-    omega (arith, inside, ap length c.loop-unit.invariant, length-filled c.args.lists.now (touching c.args.row c.args.part (take c.loop-unit.unit-index c.args.holders.now)))
+pub push-requires-clause-inside : goal.push-requires-clause-inside
+push-requires-clause-inside c =
+    let inside : (get_or c.args.holders.now c.loop-unit.unit-index (0, 0)).0 < length c.args.lists.now.lists = c.requires.inside c.loop-unit.unit-index (0, 0) c.loop-unit-test.true in
+    omega (arith, inside, ap (λ (v : Filling (ℕ × ℕ)). length v.lists) c.loop-unit.invariant, length-filled c.args.lists.now.lists (touching c.args.row c.args.part (take c.loop-unit.unit-index c.args.holders.now)))
+
+pub push-requires-clause-room : goal.push-requires-clause-room
+push-requires-clause-room c = room c.args.lists.now c.loop-unit.lists c.args.row c.args.part c.loop-unit.unit-index c.args.holders.now c.loop-unit-test.true c.loop-unit.invariant c.if-amount-part-ge500000.true (c.requires.inside c.loop-unit.unit-index (0, 0) c.loop-unit-test.true) c.requires.room
 
 pub loop-unit-preserved : goal.loop-unit-preserved
 loop-unit-preserved c =
     elim c.if-amount-part-ge500000.branch [
-      | then-amount-part-ge500000+in_ok-push w ↦ w.lists-is ∙ enough c.args.lists.now c.loop-unit.lists _ c.args.row c.args.part c.loop-unit.unit-index c.args.holders.now c.loop-unit-test.true c.loop-unit.invariant w.if-amount-part-ge500000.true (c.requires c.loop-unit.unit-index (0, 0) c.loop-unit-test.true) w.in_ok-push.ensures
+      | then-amount-part-ge500000 w ↦ w.lists-is ∙ enough c.args.lists.now c.loop-unit.lists _ c.args.row c.args.part c.loop-unit.unit-index c.args.holders.now c.loop-unit-test.true c.loop-unit.invariant w.if-amount-part-ge500000.true (c.requires.inside c.loop-unit.unit-index (0, 0) c.loop-unit-test.true) w.push.ensures
       | else-amount-part-ge500000 w ↦ w.lists-is ∙ little c.args.lists.now c.loop-unit.lists c.args.row c.args.part c.loop-unit.unit-index c.args.holders.now c.loop-unit-test.true c.loop-unit.invariant w.if-amount-part-ge500000.false
     ]

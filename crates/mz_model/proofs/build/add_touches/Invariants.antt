@@ -4,4 +4,4 @@ use Rattle.mz_model.specs.Groups.{filled}
 use Rattle.mz_model.proofs.build.add_touches.Given as goal
 
 abbrev pub invariant-loop-unit : goal.invariant-loop-unit
-invariant-loop-unit l = l.lists ≡ filled l.fn.lists (touching l.row l.part (take l.unit-index l.holders))
+invariant-loop-unit l = l.lists ≡ record l.fn.lists { lists = filled l.fn.lists.lists (touching l.row l.part (take l.unit-index l.holders)) }

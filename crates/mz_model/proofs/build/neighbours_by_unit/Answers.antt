@@ -1,30 +1,27 @@
-use Rattle.std.proofs.Common.{◌≡◌, ap, ◌∙◌, length, take, get_or, arith}
-use Rattle.std.specs.List.{flat_map}
-use Rattle.std.proofs.lemmas.List.{length-set}
-use Rattle.std.proofs.lemmas.Result.{IfOk-weaker}
-use Rattle.mz_model.specs.Boundary.{ends_of, neighbours_of}
-use Rattle.mz_model.specs.Parts.{unit_count}
-use Rattle.mz_num.specs.Places.{list_below}
-use Rattle.mz_model.specs.Valid.{IsPair}
-use Rattle.mz_model.proofs.BuildLaws.{empty_lists, filled-none, length-empty-filled, neighbours-done, neighbours-more, pair-at}
+use Rattle.std.proofs.Common.{◌∙◌, ap, length, map, refl, sym}
+use Rattle.mz_model.proofs.BuildLaws.{neighbours-next, neighbours-open, neighbours-start, neighbours-whole}
 use Rattle.mz_model.proofs.build.neighbours_by_unit.Goals as goal
 
 pub loop-first-init : goal.loop-first-init
-loop-first-init c = c.in_ok-lists.ensures ∙ ap empty_lists c.len.ensures ∙ filled-none (empty_lists (unit_count c.args.parts.now))
+loop-first-init c = neighbours-start c.args.parts.now c.as_slice.result.now c.in_ok-lists.lists (c.as_slice.ensures.value ∙ c.in_ok-counts.ensures) c.in_ok-lists.ensures
 
-pub push-requires : goal.push-requires
-push-requires c =
-    let is : IsPair (unit_count c.args.parts.now) (get_or c.as_slice-edges.result.now c.loop-first.first-index (0, 0, 0)) = pair-at c.args.parts.now c.as_slice-edges.result.now c.loop-first.first-index c.requires c.as_slice-edges.ensures c.loop-first-test.true in
-    omega (arith, is.first, is.second, length-empty-filled (unit_count c.args.parts.now) c.loop-first.lists (flat_map ends_of (take c.loop-first.first-index c.as_slice-edges.result.now)) c.loop-first.invariant)
+pub push-requires-clause-inside : goal.push-requires-clause-inside
+push-requires-clause-inside c = (neighbours-open c.args.parts.now c.as_slice-edges.result.now c.loop-first.first-index c.loop-first.lists _ c.requires c.as_slice-edges.ensures c.loop-first-test.true c.loop-first.invariant refl).first_in
 
-pub push-requires-in-loop-first : goal.push-requires-in-loop-first
-push-requires-in-loop-first c =
-    let is : IsPair (unit_count c.args.parts.now) (get_or c.as_slice-edges.result.now c.loop-first.first-index (0, 0, 0)) = pair-at c.args.parts.now c.as_slice-edges.result.now c.loop-first.first-index c.requires c.as_slice-edges.ensures c.loop-first-test.true in
-    let same : length c.push.new.self ≡ length c.loop-first.lists = ap length c.in_ok-push.ensures ∙ length-set _ _ _ in
-    omega (arith, same, is.second, length-empty-filled (unit_count c.args.parts.now) c.loop-first.lists (flat_map ends_of (take c.loop-first.first-index c.as_slice-edges.result.now)) c.loop-first.invariant)
+pub push-requires-clause-room : goal.push-requires-clause-room
+push-requires-clause-room c = (neighbours-open c.args.parts.now c.as_slice-edges.result.now c.loop-first.first-index c.loop-first.lists _ c.requires c.as_slice-edges.ensures c.loop-first-test.true c.loop-first.invariant refl).first_room
+
+pub push-requires-in-loop-first-clause-inside : goal.push-requires-in-loop-first-clause-inside
+push-requires-in-loop-first-clause-inside c = (neighbours-open c.args.parts.now c.as_slice-edges.result.now c.loop-first.first-index c.loop-first.lists c.push.new.self c.requires c.as_slice-edges.ensures c.loop-first-test.true c.loop-first.invariant c.push.ensures).second_in
+
+pub push-requires-in-loop-first-clause-room : goal.push-requires-in-loop-first-clause-room
+push-requires-in-loop-first-clause-room c = (neighbours-open c.args.parts.now c.as_slice-edges.result.now c.loop-first.first-index c.loop-first.lists c.push.new.self c.requires c.as_slice-edges.ensures c.loop-first-test.true c.loop-first.invariant c.push.ensures).second_room
 
 pub loop-first-preserved : goal.loop-first-preserved
-loop-first-preserved c = neighbours-more (unit_count c.args.parts.now) c.as_slice-edges.result.now c.loop-first.first-index c.loop-first.lists c.push.new.self c.push-in-loop-first.new.self c.loop-first-test.true (pair-at c.args.parts.now c.as_slice-edges.result.now c.loop-first.first-index c.requires c.as_slice-edges.ensures c.loop-first-test.true) c.loop-first.invariant c.in_ok-push.ensures c.in_ok-push-2.ensures
+loop-first-preserved c = neighbours-next c.args.parts.now c.as_slice-edges.result.now c.loop-first.first-index c.loop-first.lists c.push.new.self c.push-in-loop-first.new.self c.requires c.as_slice-edges.ensures c.loop-first-test.true c.loop-first.invariant c.push.ensures c.push-in-loop-first.ensures
+
+pub full-requires : goal.full-requires
+full-requires c = ap (λ ls. map length ls) (neighbours-whole c.args.parts.now c.as_slice-edges.result.now c.loop-first.first-index c.loop-first.lists c.as_slice-edges.ensures c.loop-first-test.false c.loop-first.invariant) ∙ sym c.loop-first.invariant.room
 
 pub returns : goal.returns
-returns c = IfOk-weaker c.compressed.result (λ groups. groups ≡ c.loop-first.lists) (λ groups. groups ≡ list_below (unit_count c.args.parts.now) (neighbours_of c.args.parts.now)) (λ groups same. same ∙ neighbours-done c.args.parts.now c.as_slice-edges.result.now c.loop-first.first-index c.loop-first.lists c.as_slice-edges.ensures c.loop-first-test.false c.loop-first.invariant) c.compressed.ensures
+returns c = c.full.ensures ∙ neighbours-whole c.args.parts.now c.as_slice-edges.result.now c.loop-first.first-index c.loop-first.lists c.as_slice-edges.ensures c.loop-first-test.false c.loop-first.invariant
