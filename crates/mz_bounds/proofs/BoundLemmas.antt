@@ -9,7 +9,7 @@ use Rattle.mz_rows.specs.Rows.{RowReader, at_most}
 use Rattle.mz_rows.proofs.RowLemmas.{HasRead, at_most-past, at_most-within, by_line, by_line-is, has_read-all, has_read-fault, has_read-more, has_read-none}
 use Rattle.mz_bounds.specs.Bounds.{bound_rows}
 use Rattle.mz_bounds.specs.Pairs.{bound_in}
-use Rattle.mz_bounds.specs.declared.pair.PairRow.{PairRow}
+use Rattle.mz_bounds.specs.Pairs.{PairRow}
 
 abbrev pub bound_reader : List ℕ → RowReader PairRow
 bound_reader units = at_most 1000000 (by_line (bound_in units))
@@ -17,17 +17,17 @@ bound_reader units = at_most 1000000 (by_line (bound_in units))
 -- the rows before this one have been read
 pub record AreBoundsSoFar (units : List ℕ) (rows : List Row) (items : List PairRow) (row : ℕ) : Type 0 where
   pub read : HasRead (bound_reader units) rows items row
-  pub low : All (λ item. item.low ≤ item.high) items
-  pub high : All (λ item. item.high < length units) items
-  pub small : All (λ item. item.number ≤ 10 ^ 18) items
+  pub low : All (λ item. item.0 ≤ item.1) items
+  pub high : All (λ item. item.1 < length units) items
+  pub small : All (λ item. item.2 ≤ 10 ^ 18) items
   pub few : row ≤ 1000000
 
 pub bounds-none : (units : List ℕ) (rows : List Row) (items : List PairRow) → items ≡ [] → AreBoundsSoFar units rows items 0
 bounds-none units rows items e = subst (λ items. AreBoundsSoFar units rows items 0) (sym e) (record {
   read = has_read-none (bound_reader units) rows;
-  low = All-nil (λ item. item.low ≤ item.high);
-  high = All-nil (λ item. item.high < length units);
-  small = All-nil (λ item. item.number ≤ 10 ^ 18);
+  low = All-nil (λ item. item.0 ≤ item.1);
+  high = All-nil (λ item. item.1 < length units);
+  small = All-nil (λ item. item.2 ≤ 10 ^ 18);
   few = omega arith;
 })
 
@@ -44,14 +44,14 @@ bounds-fault units rows items row fault so_far h few e =
     (at_most-within 1000000 (by_line (bound_in units)) items (get_or rows row []) row (Err fault) so_far.read.count few
     (by_line-is (bound_in units) items (get_or rows row []) row (Err fault) so_far.read.count e))
 
-pub bounds-more : (units : List ℕ) (rows : List Row) (items items' : List PairRow) (row : ℕ) (item : PairRow) → AreBoundsSoFar units rows items row → row < length rows → row < 1000000 → bound_in units (row + 2) (get_or rows row []) ≡ Ok item → item.low ≤ item.high → item.high < length units → item.number ≤ 10 ^ 18 → items' ≡ items ++ item ∷ [] → AreBoundsSoFar units rows items' (row + 1)
+pub bounds-more : (units : List ℕ) (rows : List Row) (items items' : List PairRow) (row : ℕ) (item : PairRow) → AreBoundsSoFar units rows items row → row < length rows → row < 1000000 → bound_in units (row + 2) (get_or rows row []) ≡ Ok item → item.0 ≤ item.1 → item.1 < length units → item.2 ≤ 10 ^ 18 → items' ≡ items ++ item ∷ [] → AreBoundsSoFar units rows items' (row + 1)
 bounds-more units rows items items' row item so_far h few e low high small pushed = subst (λ items. AreBoundsSoFar units rows items (row + 1)) (sym pushed) (record {
   read = has_read-more (bound_reader units) rows items row item so_far.read h
       (at_most-within 1000000 (by_line (bound_in units)) items (get_or rows row []) row (Ok item) so_far.read.count few
       (by_line-is (bound_in units) items (get_or rows row []) row (Ok item) so_far.read.count e));
-  low = All-push (λ item. item.low ≤ item.high) items item so_far.low low;
-  high = All-push (λ item. item.high < length units) items item so_far.high high;
-  small = All-push (λ item. item.number ≤ 10 ^ 18) items item so_far.small small;
+  low = All-push (λ item. item.0 ≤ item.1) items item so_far.low low;
+  high = All-push (λ item. item.1 < length units) items item so_far.high high;
+  small = All-push (λ item. item.2 ≤ 10 ^ 18) items item so_far.small small;
   few = omega arith;
 })
 

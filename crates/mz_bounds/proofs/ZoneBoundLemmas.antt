@@ -15,10 +15,10 @@ use Rattle.mz_rows.specs.Rows.{RowReader, go_on, line_behind}
 use Rattle.mz_num.proofs.PlaceLaws.{list_below-from}
 use Rattle.mz_rows.proofs.PairLemmas.{first-below, pair-below, pair-first, pair-second, pair-whole, second-below}
 use Rattle.mz_rows.proofs.RowLemmas.{HasRead, by_line, by_line-is, has_read-all, has_read-fault, has_read-more, has_read-none}
-use Rattle.mz_bounds.specs.Pairs.{names, zone_bound_in}
+use Rattle.mz_rows.specs.Pairs.{names}
 use Rattle.mz_bounds.specs.ZoneBounds.{AreZoneBounds, IsEven, cost_at, is_another, settled, unless_another, zone_bound_rows, zone_bounds_of, zone_costs}
-use Rattle.mz_bounds.specs.declared.pair.PairRow.{PairRow}
-use Rattle.mz_bounds.proofs.AddedLemmas.{both_are, both_true}
+use Rattle.mz_bounds.specs.Pairs.{PairRow, zone_bound_in}
+use Rattle.mz_rows.proofs.AddedPairLemmas.{both_are, both_true}
 
 -- ---- places of two zones
 
@@ -48,7 +48,7 @@ set_neither xs a b k x d h m = get_or-set_other (set xs a x) b k x d m ∙ get_o
 -- ---- the cost of two zones, with one more row
 
 abbrev number_of : PairRow → ℕ
-number_of row = row.number
+number_of row = row.2
 
 cost_more : (earlier : List PairRow) (item : PairRow) (first second : ℕ) → cost_at (earlier ++ item ∷ []) first second ≡ option_map number_of (option_or (find (names (min first second) (max first second)) earlier) (cond (names (min first second) (max first second) item) (Some item) None))
 cost_more earlier item first second = ap (option_map number_of) (find-append (names (min first second) (max first second)) earlier (item ∷ []))
@@ -63,29 +63,29 @@ cost-other earlier item first second e =
     ∙ ap (λ (b : Bool). option_map number_of (option_or (find (names (min first second) (max first second)) earlier) (cond b (Some item) None))) e
     ∙ ap (option_map number_of) (kept (find (names (min first second) (max first second)) earlier))
 
-settled_cost : (found : Option PairRow) (item : PairRow) → is_another (option_map number_of found) item.number ≡ false → option_map number_of (option_or found (Some item)) ≡ Some item.number
+settled_cost : (found : Option PairRow) (item : PairRow) → is_another (option_map number_of found) item.2 ≡ false → option_map number_of (option_or found (Some item)) ≡ Some item.2
 settled_cost None item e = refl
-settled_cost (Some row) item e = ap Some (eqb-true row.number item.number (not-false (row.number == item.number) e))
+settled_cost (Some row) item e = ap Some (eqb-true row.2 item.2 (not-false (row.2 == item.2) e))
 
-cost-named : (earlier : List PairRow) (item : PairRow) (first second : ℕ) → item.low ≡ min first second → item.high ≡ max first second → item.low ≤ item.high → is_another (cost_at earlier item.low item.high) item.number ≡ false → cost_at (earlier ++ item ∷ []) first second ≡ Some item.number
+cost-named : (earlier : List PairRow) (item : PairRow) (first second : ℕ) → item.0 ≡ min first second → item.1 ≡ max first second → item.0 ≤ item.1 → is_another (cost_at earlier item.0 item.1) item.2 ≡ false → cost_at (earlier ++ item ∷ []) first second ≡ Some item.2
 cost-named earlier item first second low high up e =
-    let least : min item.low item.high ≡ min first second = omega arith in
-    let most : max item.low item.high ≡ max first second = omega arith in
-    let agrees : is_another (option_map number_of (find (names (min first second) (max first second)) earlier)) item.number ≡ false =
-    sym (ap (λ n. is_another (option_map number_of (find (names n (max item.low item.high)) earlier)) item.number) least
-    ∙ ap (λ n. is_another (option_map number_of (find (names (min first second) n) earlier)) item.number) most) ∙ e in
+    let least : min item.0 item.1 ≡ min first second = omega arith in
+    let most : max item.0 item.1 ≡ max first second = omega arith in
+    let agrees : is_another (option_map number_of (find (names (min first second) (max first second)) earlier)) item.2 ≡ false =
+    sym (ap (λ n. is_another (option_map number_of (find (names n (max item.0 item.1)) earlier)) item.2) least
+    ∙ ap (λ n. is_another (option_map number_of (find (names (min first second) n) earlier)) item.2) most) ∙ e in
     cost_more earlier item first second
-    ∙ ap (λ (b : Bool). option_map number_of (option_or (find (names (min first second) (max first second)) earlier) (cond b (Some item) None))) (both_true item.low item.high (min first second) (max first second) low high)
+    ∙ ap (λ (b : Bool). option_map number_of (option_or (find (names (min first second) (max first second)) earlier) (cond b (Some item) None))) (both_true item.0 item.1 (min first second) (max first second) low high)
     ∙ settled_cost (find (names (min first second) (max first second)) earlier) item agrees
 
 -- ---- rows that may repeat a cost
 
 pub settled-fault : (read : RowReader PairRow) (earlier : List PairRow) (row : Row) (fault : RowFault) → read earlier row ≡ Err fault → settled read earlier row ≡ Err fault
-settled-fault read earlier row fault e = ap (λ (r : Result PairRow RowFault). go_on r (λ item. unless_another (is_another (cost_at earlier item.low item.high) item.number) (line_behind earlier) item)) e
+settled-fault read earlier row fault e = ap (λ (r : Result PairRow RowFault). go_on r (λ item. unless_another (is_another (cost_at earlier item.0 item.1) item.2) (line_behind earlier) item)) e
 
-pub settled-as : (read : RowReader PairRow) (earlier : List PairRow) (row : Row) (item : PairRow) (b : Bool) → read earlier row ≡ Ok item → is_another (cost_at earlier item.low item.high) item.number ≡ b → settled read earlier row ≡ unless_another b (line_behind earlier) item
+pub settled-as : (read : RowReader PairRow) (earlier : List PairRow) (row : Row) (item : PairRow) (b : Bool) → read earlier row ≡ Ok item → is_another (cost_at earlier item.0 item.1) item.2 ≡ b → settled read earlier row ≡ unless_another b (line_behind earlier) item
 settled-as read earlier row item b e another =
-    ap (λ (r : Result PairRow RowFault). go_on r (λ item. unless_another (is_another (cost_at earlier item.low item.high) item.number) (line_behind earlier) item)) e
+    ap (λ (r : Result PairRow RowFault). go_on r (λ item. unless_another (is_another (cost_at earlier item.0 item.1) item.2) (line_behind earlier) item)) e
     ∙ ap (λ b. unless_another b (line_behind earlier) item) another
 
 -- ---- the rows of the file
@@ -127,52 +127,52 @@ listed-fault zones rows listed row fault so_far h e =
     (by_line-is (zone_bound_in zones) so_far.earlier (get_or rows row []) row (Err fault) so_far.read.count e)))
 
 -- the cost that a row's two zones have
-known : (zones : List ℕ) (rows : List Row) (listed : List (Option ℕ)) (row : ℕ) (item : PairRow) (at : Option ℕ) → AreListedSoFar zones rows listed row → item.low ≤ item.high → item.high < length zones → at ≡ get_or listed (item.low * length zones + item.high) at → (so_far : AreListedSoFar zones rows listed row) → at ≡ cost_at so_far.earlier item.low item.high
+known : (zones : List ℕ) (rows : List Row) (listed : List (Option ℕ)) (row : ℕ) (item : PairRow) (at : Option ℕ) → AreListedSoFar zones rows listed row → item.0 ≤ item.1 → item.1 < length zones → at ≡ get_or listed (item.0 * length zones + item.1) at → (so_far : AreListedSoFar zones rows listed row) → at ≡ cost_at so_far.earlier item.0 item.1
 known zones rows listed row item at _ low high is so_far =
-    is ∙ get_or_default listed (item.low * length zones + item.high) at None (omega (arith, so_far.size, place-lt (length zones) item.low item.high (omega arith) high)) ∙ so_far.each item.low item.high (omega arith) high
+    is ∙ get_or_default listed (item.0 * length zones + item.1) at None (omega (arith, so_far.size, place-lt (length zones) item.0 item.1 (omega arith) high)) ∙ so_far.each item.0 item.1 (omega arith) high
 
-pub listed-repeated : (zones : List ℕ) (rows : List Row) (listed : List (Option ℕ)) (row : ℕ) (item : PairRow) (at : Option ℕ) → AreListedSoFar zones rows listed row → row < length rows → zone_bound_in zones (row + 2) (get_or rows row []) ≡ Ok item → item.low ≤ item.high → item.high < length zones → at ≡ get_or listed (item.low * length zones + item.high) at → is_another at item.number ≡ true → zone_bounds_of zones rows ≡ Err (Repeated (row + 2))
+pub listed-repeated : (zones : List ℕ) (rows : List Row) (listed : List (Option ℕ)) (row : ℕ) (item : PairRow) (at : Option ℕ) → AreListedSoFar zones rows listed row → row < length rows → zone_bound_in zones (row + 2) (get_or rows row []) ≡ Ok item → item.0 ≤ item.1 → item.1 < length zones → at ≡ get_or listed (item.0 * length zones + item.1) at → is_another at item.2 ≡ true → zone_bounds_of zones rows ≡ Err (Repeated (row + 2))
 unfolding zone_bound_rows
 listed-repeated zones rows listed row item at so_far h e low high is another =
     goes-on zones rows (Err (Repeated (row + 2)))
     (has_read-fault (zone_bound_reader zones) rows so_far.earlier row (Repeated (row + 2)) so_far.read h
     (settled-as (by_line (zone_bound_in zones)) so_far.earlier (get_or rows row []) item true
     (by_line-is (zone_bound_in zones) so_far.earlier (get_or rows row []) row (Ok item) so_far.read.count e)
-    (ap (λ (cost : Option ℕ). is_another cost item.number) (sym (known zones rows listed row item at so_far low high is so_far)) ∙ another)
+    (ap (λ (cost : Option ℕ). is_another cost item.2) (sym (known zones rows listed row item at so_far low high is so_far)) ∙ another)
     ∙ ap (λ n. Err (Repeated (n + 2))) so_far.read.count))
 
 -- the two places of a row's zones
-each_more : (n : ℕ) (earlier : List PairRow) (listed : List (Option ℕ)) (item : PairRow) → length listed ≡ n * n → ((first second : ℕ) → first < n → second < n → get_or listed (first * n + second) None ≡ cost_at earlier first second) → item.low ≤ item.high → item.high < n → is_another (cost_at earlier item.low item.high) item.number ≡ false → (first second : ℕ) → first < n → second < n → (b : Bool) → names (min first second) (max first second) item ≡ b → get_or (set (set listed (item.low * n + item.high) (Some item.number)) (item.high * n + item.low) (Some item.number)) (first * n + second) None ≡ cost_at (earlier ++ item ∷ []) first second
+each_more : (n : ℕ) (earlier : List PairRow) (listed : List (Option ℕ)) (item : PairRow) → length listed ≡ n * n → ((first second : ℕ) → first < n → second < n → get_or listed (first * n + second) None ≡ cost_at earlier first second) → item.0 ≤ item.1 → item.1 < n → is_another (cost_at earlier item.0 item.1) item.2 ≡ false → (first second : ℕ) → first < n → second < n → (b : Bool) → names (min first second) (max first second) item ≡ b → get_or (set (set listed (item.0 * n + item.1) (Some item.2)) (item.1 * n + item.0) (Some item.2)) (first * n + second) None ≡ cost_at (earlier ++ item ∷ []) first second
 each_more n earlier listed item size each low high agrees first second h k true e =
-    let are : (item.low ≡ min first second) × (item.high ≡ max first second) = both_are item.low item.high (min first second) (max first second) e in
-    let least : item.low ≡ min first second = are.0 in
-    let most : item.high ≡ max first second = are.1 in
-    let at : (first * n + second ≡ item.low * n + item.high) ⊎ (first * n + second ≡ item.high * n + item.low) = elim (cases_lt second first) [
-      | inl less ↦ (let a : first ≡ item.high = omega arith in let b : second ≡ item.low = omega arith in inr (ap (λ i. i * n + second) a ∙ ap (λ i. item.high * n + i) b))
-      | inr more ↦ (let a : first ≡ item.low = omega arith in let b : second ≡ item.high = omega arith in inl (ap (λ i. i * n + second) a ∙ ap (λ i. item.low * n + i) b))
+    let are : (item.0 ≡ min first second) × (item.1 ≡ max first second) = both_are item.0 item.1 (min first second) (max first second) e in
+    let least : item.0 ≡ min first second = are.0 in
+    let most : item.1 ≡ max first second = are.1 in
+    let at : (first * n + second ≡ item.0 * n + item.1) ⊎ (first * n + second ≡ item.1 * n + item.0) = elim (cases_lt second first) [
+      | inl less ↦ (let a : first ≡ item.1 = omega arith in let b : second ≡ item.0 = omega arith in inr (ap (λ i. i * n + second) a ∙ ap (λ i. item.1 * n + i) b))
+      | inr more ↦ (let a : first ≡ item.0 = omega arith in let b : second ≡ item.1 = omega arith in inl (ap (λ i. i * n + second) a ∙ ap (λ i. item.0 * n + i) b))
     ] in
-    set_two listed (item.low * n + item.high) (item.high * n + item.low) (first * n + second) (Some item.number) None (omega (arith, place-lt n item.low item.high (omega arith) high)) (omega (arith, place-lt n item.high item.low high (omega arith))) at
+    set_two listed (item.0 * n + item.1) (item.1 * n + item.0) (first * n + second) (Some item.2) None (omega (arith, place-lt n item.0 item.1 (omega arith) high)) (omega (arith, place-lt n item.1 item.0 high (omega arith))) at
     ∙ sym (cost-named earlier item first second least most low agrees)
 each_more n earlier listed item size each low high agrees first second h k false e =
-    set_neither listed (item.low * n + item.high) (item.high * n + item.low) (first * n + second) (Some item.number) None
-    (λ same. (let a : first ≡ item.low = same_first n first second item.low item.high k high same in let b : second ≡ item.high = same_second n first second item.low item.high k high same in
-    false≢true (sym e ∙ both_true item.low item.high (min first second) (max first second) (omega arith) (omega arith))))
-    (λ same. (let a : first ≡ item.high = same_first n first second item.high item.low k (omega arith) same in let b : second ≡ item.low = same_second n first second item.high item.low k (omega arith) same in
-    false≢true (sym e ∙ both_true item.low item.high (min first second) (max first second) (omega arith) (omega arith))))
+    set_neither listed (item.0 * n + item.1) (item.1 * n + item.0) (first * n + second) (Some item.2) None
+    (λ same. (let a : first ≡ item.0 = same_first n first second item.0 item.1 k high same in let b : second ≡ item.1 = same_second n first second item.0 item.1 k high same in
+    false≢true (sym e ∙ both_true item.0 item.1 (min first second) (max first second) (omega arith) (omega arith))))
+    (λ same. (let a : first ≡ item.1 = same_first n first second item.1 item.0 k (omega arith) same in let b : second ≡ item.0 = same_second n first second item.1 item.0 k (omega arith) same in
+    false≢true (sym e ∙ both_true item.0 item.1 (min first second) (max first second) (omega arith) (omega arith))))
     ∙ each first second h k ∙ sym (cost-other earlier item first second e)
 
-pub listed-more : (zones : List ℕ) (rows : List Row) (listed : List (Option ℕ)) (row : ℕ) (item : PairRow) (at : Option ℕ) → AreListedSoFar zones rows listed row → row < length rows → zone_bound_in zones (row + 2) (get_or rows row []) ≡ Ok item → item.low ≤ item.high → item.high < length zones → item.number ≤ 10 ^ 18 → at ≡ get_or listed (item.low * length zones + item.high) at → is_another at item.number ≡ false → AreListedSoFar zones rows (set (set listed (item.low * length zones + item.high) (Some item.number)) (item.high * length zones + item.low) (Some item.number)) (row + 1)
+pub listed-more : (zones : List ℕ) (rows : List Row) (listed : List (Option ℕ)) (row : ℕ) (item : PairRow) (at : Option ℕ) → AreListedSoFar zones rows listed row → row < length rows → zone_bound_in zones (row + 2) (get_or rows row []) ≡ Ok item → item.0 ≤ item.1 → item.1 < length zones → item.2 ≤ 10 ^ 18 → at ≡ get_or listed (item.0 * length zones + item.1) at → is_another at item.2 ≡ false → AreListedSoFar zones rows (set (set listed (item.0 * length zones + item.1) (Some item.2)) (item.1 * length zones + item.0) (Some item.2)) (row + 1)
 listed-more zones rows listed row item at so_far h e low high small is another =
-    let agrees : is_another (cost_at so_far.earlier item.low item.high) item.number ≡ false = ap (λ (cost : Option ℕ). is_another cost item.number) (sym (known zones rows listed row item at so_far low high is so_far)) ∙ another in
+    let agrees : is_another (cost_at so_far.earlier item.0 item.1) item.2 ≡ false = ap (λ (cost : Option ℕ). is_another cost item.2) (sym (known zones rows listed row item at so_far low high is so_far)) ∙ another in
     record {
       earlier = so_far.earlier ++ item ∷ [];
       read = has_read-more (zone_bound_reader zones) rows so_far.earlier row item so_far.read h
           (settled-as (by_line (zone_bound_in zones)) so_far.earlier (get_or rows row []) item false
           (by_line-is (zone_bound_in zones) so_far.earlier (get_or rows row []) row (Ok item) so_far.read.count e) agrees);
-      size = length-set (set listed (item.low * length zones + item.high) (Some item.number)) (item.high * length zones + item.low) (Some item.number) ∙ length-set listed (item.low * length zones + item.high) (Some item.number) ∙ so_far.size;
+      size = length-set (set listed (item.0 * length zones + item.1) (Some item.2)) (item.1 * length zones + item.0) (Some item.2) ∙ length-set listed (item.0 * length zones + item.1) (Some item.2) ∙ so_far.size;
       each = λ first second m k. each_more (length zones) so_far.earlier listed item so_far.size so_far.each low high agrees first second m k (names (min first second) (max first second) item) refl;
-      small = All-set IsSmall (set listed (item.low * length zones + item.high) (Some item.number)) (item.high * length zones + item.low) (Some item.number) small
-          (All-set IsSmall listed (item.low * length zones + item.high) (Some item.number) small so_far.small);
+      small = All-set IsSmall (set listed (item.0 * length zones + item.1) (Some item.2)) (item.1 * length zones + item.0) (Some item.2) small
+          (All-set IsSmall listed (item.0 * length zones + item.1) (Some item.2) small so_far.small);
     }
 
 -- ---- the costs of all zones

@@ -1,17 +1,18 @@
 -- The file of zone boundary costs: what a boundary between two zones costs.
-use Rattle.std.specs.Prelude.{ℕ, ◌+◌, ◌*◌, ◌/◌, ◌%◌, ◌^◌, ◌≡◌, ◌<◌, ◌≤◌, ◌==◌, Bool, false, not, List, length, min, max, slice_index, Option, Some, None, option_map, unwrap_or, Result, Ok, Err, if◌then◌else◌}
+use Rattle.std.specs.Prelude.{ℕ, ◌+◌, ◌*◌, ◌/◌, ◌%◌, ◌≡◌, ◌<◌, ◌≤◌, ◌==◌, Bool, false, not, List, length, min, max, slice_index, Option, Some, None, option_map, unwrap_or, Result, Ok, Err, if◌then◌else◌}
 use Rattle.std.specs.List.{All, find}
 use Rattle.mz_tables.specs.Table.{Row}
 use Rattle.mz_tables.specs.declared.fault.RowFault.{RowFault}
 use Rattle.mz_tables.specs.declared.fault.RowFault.TheVariants.{Repeated}
+use Rattle.mz_num.specs.Limits.{greatest_quantity}
 use Rattle.mz_num.specs.Places.{list_below}
 use Rattle.mz_rows.specs.Rows.{RowReader, go_on, items_of, line_behind}
-use Rattle.mz_bounds.specs.Pairs.{names, zone_bound_in}
-use Rattle.mz_bounds.specs.declared.pair.PairRow.{PairRow}
+use Rattle.mz_rows.specs.Pairs.{names}
+use Rattle.mz_bounds.specs.Pairs.{PairRow, zone_bound_in}
 
 -- the cost of the first row that names two zones, which may be one zone twice, in either order
 abbrev pub cost_at : List PairRow → ℕ → ℕ → Option ℕ
-cost_at rows first second = option_map (λ row. row.number) (find (names (min first second) (max first second)) rows)
+cost_at rows first second = option_map (λ row. row.2) (find (names (min first second) (max first second)) rows)
 
 -- there is a cost, and it is another one
 abbrev pub is_another : Option ℕ → ℕ → Bool
@@ -24,7 +25,7 @@ unless_another another line row = (if another then Err (Repeated line) else Ok r
 
 -- a row may repeat an earlier one's cost, and no other; this is tested once the row has been read
 abbrev pub settled : RowReader PairRow → RowReader PairRow
-settled read earlier row = go_on (read earlier row) (λ item. unless_another (is_another (cost_at earlier item.low item.high) item.number) (line_behind earlier) item)
+settled read earlier row = go_on (read earlier row) (λ item. unless_another (is_another (cost_at earlier item.0 item.1) item.2) (line_behind earlier) item)
 
 -- the rows of the file
 unfoldable pub zone_bound_rows : List ℕ → List Row → Result (List PairRow) RowFault
@@ -45,5 +46,5 @@ IsEven zones numbers = (first second : ℕ) → first < zones → second < zones
 -- a number of millionths for each two zones, the same in both orders
 pub record AreZoneBounds (zones : ℕ) (costs : List ℕ) : Type 0 where
   pub all_pairs : length costs ≡ zones * zones
-  pub small : All (λ cost. cost ≤ 10 ^ 18) costs
+  pub small : All (λ cost. cost ≤ greatest_quantity) costs
   pub even : IsEven zones costs

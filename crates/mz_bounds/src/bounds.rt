@@ -1,18 +1,20 @@
 //! The file of boundaries: how long the boundary between two units is.
-ghost use Rattle.std.specs.Prelude.{◌≡◌, ◌<◌, ◌≤◌, ◌^◌, length, IfOk};
+ghost use Rattle.std.specs.Prelude.{◌≡◌, ◌<◌, ◌≤◌, length, IfOk};
 ghost use Rattle.std.specs.List.{All};
+ghost use Rattle.mz_num.specs.Limits.{greatest_quantity, most_boundary_rows};
 ghost use Rattle.mz_rows.specs.Answer.{Answers, Gives};
 ghost use Rattle.mz_bounds.specs.Bounds.{AreFitBounds, bound_rows, bounds_of};
 
 use crate::outer::outer_lengths;
-use crate::pair::{PairRow, read_bound};
-use crate::sorted::add_pairs;
+use crate::pair::read_bound;
 use mz_num::Items;
+use mz_num::limits::MOST_BOUNDARY_ROWS;
+use mz_rows::add_pairs;
 use mz_tables::{Ids, RowFault, Table};
 use std::alloc::Global;
 
 /// The most rows of the file.
-const MOST_ROWS: u32 = 1_000_000;
+const MOST_ROWS: u32 = MOST_BOUNDARY_ROWS as u32;
 
 /// The boundaries of a project, in ten-thousandths.
 #[derive(Drop)]
@@ -33,37 +35,36 @@ pub fn read_bounds(alloc: Global, table: &Table, units: &Ids) -> Result<Bounds, 
     ensures answer { Answers result (bounds_of units.now table.now) }
     ensures fit { IfOk result (AreFitBounds (length units.now)) }
 {
-    let rows = read_bound_rows(alloc, table, units)?;
-    let Ok(outer) = outer_lengths(alloc, rows.as_slice(), units.len()) else {
-        return Err(RowFault::NoMemory);
-    };
-    let Ok(edges) = add_pairs(alloc, rows) else {
-        return Err(RowFault::NoMemory);
-    };
+    let mut rows = read_bound_rows(alloc, table, units)?;
+    let outer = outer_lengths(alloc, rows.as_slice(), units.len())?;
+    rows.retain(|row| row.0 < row.1);
+    let edges = add_pairs(alloc, rows)?;
     Ok(Bounds {
         edges: Items::new(edges),
         outer: Items::new(outer),
     })
 }
 
-/// Reads the rows.
-fn read_bound_rows(alloc: Global, table: &Table, units: &Ids) -> Result<Vec<PairRow>, RowFault>
+/// Reads the rows, in the order of the file.
+fn read_bound_rows(
+    alloc: Global,
+    table: &Table,
+    units: &Ids,
+) -> Result<Vec<(u32, u32, u64)>, RowFault>
     requires { All (λ row. length row ≡ 3) table.now }
     ensures answer { Gives result (λ rows. rows.items) (bound_rows units.now table.now) }
-    ensures few { IfOk result (λ rows. length rows.items ≤ 1000000) }
-    ensures low { IfOk result (λ rows. All (λ row. row.low ≤ row.high) rows.items) }
-    ensures high { IfOk result (λ rows. All (λ row. row.high < length units.now) rows.items) }
-    ensures small { IfOk result (λ rows. All (λ row. row.number ≤ 10 ^ 18) rows.items) }
+    ensures few { IfOk result (λ rows. length rows.items ≤ most_boundary_rows) }
+    ensures low { IfOk result (λ rows. All (λ row. row.0 ≤ row.1) rows.items) }
+    ensures high { IfOk result (λ rows. All (λ row. row.1 < length units.now) rows.items) }
+    ensures small { IfOk result (λ rows. All (λ row. row.2 ≤ greatest_quantity) rows.items) }
 {
-    let mut rows = Vec::new(alloc);
+    let mut rows = Vec::with_capacity(alloc, table.rows().min(MOST_ROWS) as usize)?;
     for row in 0..table.rows() {
         if row >= MOST_ROWS {
-            return Err(RowFault::TooMany(row + 2));
+            return Err(RowFault::TooMany(table.line(row)));
         }
         let bound = read_bound(table, row, units)?;
-        if rows.push(bound).is_err() {
-            return Err(RowFault::NoMemory);
-        }
+        rows.push(bound)?;
     }
     Ok(rows)
 }

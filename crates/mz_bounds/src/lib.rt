@@ -7,7 +7,6 @@ mod columns;
 mod outer;
 mod pair;
 mod rate;
-mod sorted;
 #[cfg(test)]
 mod tests;
 mod wanted;

@@ -1,6 +1,7 @@
 //! The file of zone boundary costs: what a boundary between two zones costs.
 ghost use Rattle.std.specs.Prelude.{◌≡◌, ◌≤◌, length, map, unwrap_or, IfOk};
 ghost use Rattle.std.specs.List.{All};
+ghost use Rattle.mz_num.specs.Limits.{most_zones};
 ghost use Rattle.mz_rows.specs.Answer.{Gives};
 ghost use Rattle.mz_bounds.specs.ZoneBounds.{AreZoneBounds, is_another, zone_bounds_of};
 
@@ -15,27 +16,23 @@ use std::alloc::Global;
 /// listed is 0.
 /// The file is that of the manual of Marxan with Zones 1.0.1, in this project's profile.
 pub fn read_zone_bounds(alloc: Global, table: &Table, zones: &Ids) -> Result<Vec<u64>, RowFault>
-    requires zones { length zones.now ≤ 60 }
+    requires zones { length zones.now ≤ most_zones }
     requires wide { All (λ row. length row ≡ 3) table.now }
     ensures answer { Gives result (λ costs. costs.items) (zone_bounds_of zones.now table.now) }
     ensures fit { IfOk result (λ costs. AreZoneBounds (length zones.now) costs.items) }
 {
     let width = zones.len() as usize;
-    let Ok(mut listed) = vec![in alloc; None::<u64>; width * width] else {
-        return Err(RowFault::NoMemory);
-    };
+    let mut listed = vec![in alloc; None::<u64>; width * width]?;
     for row in 0..table.rows() {
         let bound = read_zone_bound(table, row, zones)?;
-        let (low, high) = (bound.low as usize, bound.high as usize);
-        if is_another(listed[low * width + high], bound.number) {
-            return Err(RowFault::Repeated(row + 2));
+        let (low, high) = (bound.0 as usize, bound.1 as usize);
+        if is_another(listed[low * width + high], bound.2) {
+            return Err(RowFault::Repeated(table.line(row)));
         }
-        listed[low * width + high] = Some(bound.number);
-        listed[high * width + low] = Some(bound.number);
+        listed[low * width + high] = Some(bound.2);
+        listed[high * width + low] = Some(bound.2);
     }
-    let Ok(costs) = listed_costs(alloc, listed.as_slice()) else {
-        return Err(RowFault::NoMemory);
-    };
+    let costs = listed_costs(alloc, listed.as_slice())?;
     Ok(costs)
 }
 

@@ -1,3 +1,5 @@
+pub mod AddedLaws
+pub mod AddedPairLemmas
 pub mod AnswerLemmas
 pub mod RowLemmas
 pub mod IdLemmas
@@ -5,3 +7,4 @@ pub mod KeyedLemmas
 mod ByZoneLemmas
 pub mod PairLemmas
 pub mod PairListLemmas
+mod RunLemmas

@@ -154,3 +154,12 @@ pairs_below-are n m test number pairs in_order each whole =
     one_list pairs below in_order (order-below n m test number)
     (held-from n m test number pairs below each (whole-below n m test number))
     (held-from n m test number below pairs (each-below n m test number) whole)
+
+-- what the pairs below two numbers are
+pub pairs_below-in_order : (n m : ℕ) (test : ℕ → ℕ → Bool) (number : ℕ → ℕ → ℕ) → AllPairs IsBefore (pairs_below n m test number)
+unfolding pairs_below
+pairs_below-in_order n m test number = order-below n m test number
+
+pub pairs_below-each : (n m : ℕ) (test : ℕ → ℕ → Bool) (number : ℕ → ℕ → ℕ) → All (IsPairBelow n m test number) (pairs_below n m test number)
+unfolding pairs_below
+pairs_below-each n m test number = each-below n m test number

@@ -1,5 +1,6 @@
 -- What the columns of a row read as.
 use Rattle.std.specs.Prelude.{ℕ, List, [], get_or, Option, Some, None, Result, Ok, Err}
+use Rattle.mz_num.specs.Limits.{greatest_id}
 use Rattle.mz_num.specs.NumberText.{ten4_of, mic6_of, whole_of}
 use Rattle.mz_num.specs.declared.fault.NumFault.{NumFault}
 use Rattle.mz_tables.specs.Ids.{place_of_id}
@@ -23,7 +24,7 @@ number_at line column (Err fault) = Err (BadNumber line column fault)
 
 -- the id that a column holds: a whole number of at most 2147483647
 abbrev pub id_in : ℕ → Row → ℕ → Result ℕ RowFault
-id_in line row column = number_at line column (whole_of 2147483647 (text_in row column))
+id_in line row column = number_at line column (whole_of greatest_id (text_in row column))
 
 -- the ten-thousandths and the millionths that a column holds
 abbrev pub ten4_in : ℕ → Row → ℕ → Result ℕ RowFault

@@ -4,3 +4,4 @@ pub mod Columns
 pub mod Keyed
 pub mod Pairs
 pub mod Rows
+pub mod Runs

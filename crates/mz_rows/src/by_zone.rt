@@ -1,20 +1,14 @@
 //! A file that lists a number for pairs of a zone and another thing, each pair at most once.
-ghost use Rattle.std.specs.Prelude.{◌≡◌, ◌<◌, ◌≤◌, ◌+◌, ◌^◌, [], length, get_or, IfOk};
+ghost use Rattle.std.specs.Prelude.{◌≡◌, ◌<◌, ◌≤◌, [], length, get_or, IfOk};
 ghost use Rattle.std.specs.List.{All};
+ghost use Rattle.mz_num.specs.Limits.{greatest_quantity, most_zones};
+ghost use Rattle.mz_tables.specs.Table.{line_of};
 ghost use Rattle.mz_rows.specs.Answer.{Gives};
 ghost use Rattle.mz_rows.specs.ByZone.{AreByZone, by_zone_of, zone_number_in};
 
 use crate::field::{mic6_at, place_at};
 use mz_tables::{Ids, RowFault, Table};
 use std::alloc::Global;
-
-/// A row of the file: a zone and a thing by place, and the number in millionths.
-#[derive(Clone, Copy, Debug)]
-pub(crate) struct ZoneNumber {
-    pub(crate) zone: u8,
-    pub(crate) thing: u32,
-    pub(crate) number: u64,
-}
 
 /// Reads the numbers of a table whose columns are a zone's id, another thing's id and a number: in
 /// millionths at `zone * things + thing`, or the first fault of its rows: a field that is no number, an
@@ -27,53 +21,44 @@ pub fn read_by_zone(
     zones: &Ids,
     things: &Ids,
 ) -> Result<Vec<u64>, RowFault>
-    requires zones { length zones.now ≤ 60 }
+    requires zones { length zones.now ≤ most_zones }
     requires wide { All (λ row. length row ≡ 3) table.now }
     ensures answer { Gives result (λ numbers. numbers.items) (by_zone_of zones.now things.now table.now) }
     ensures fit { IfOk result (λ numbers. AreByZone (length zones.now) (length things.now) numbers.items) }
 {
     let width = things.len() as usize;
     let pairs = zones.len() as usize * width;
-    let Ok(mut listed) = vec![in alloc; false; pairs] else {
-        return Err(RowFault::NoMemory);
-    };
-    let Ok(mut numbers) = vec![in alloc; 0; pairs] else {
-        return Err(RowFault::NoMemory);
-    };
+    let mut listed = vec![in alloc; false; pairs]?;
+    let mut numbers = vec![in alloc; 0; pairs]?;
     for row in 0..table.rows() {
         let zone_number = read_zone_number(table, row, zones, things)?;
-        let place = zone_number.zone as usize * width + zone_number.thing as usize;
+        let place = zone_number.0 as usize * width + zone_number.1 as usize;
         if listed[place] {
-            return Err(RowFault::Repeated(row + 2));
+            return Err(RowFault::Repeated(table.line(row)));
         }
         listed[place] = true;
-        numbers[place] = zone_number.number;
+        numbers[place] = zone_number.2;
     }
     Ok(numbers)
 }
 
-/// Reads a row.
+/// Reads a row: a zone and a thing by place, and the number in millionths.
 fn read_zone_number(
     table: &Table,
     row: u32,
     zones: &Ids,
     things: &Ids,
-) -> Result<ZoneNumber, RowFault>
+) -> Result<(u8, u32, u64), RowFault>
     requires row { row < length table.now }
-    requires few { row ≤ 268435456 }
-    requires zones { length zones.now ≤ 60 }
+    requires zones { length zones.now ≤ most_zones }
     requires wide { length (get_or table.now row []) ≡ 3 }
-    ensures answer { result ≡ zone_number_in zones.now things.now (row + 2) (get_or table.now row []) }
-    ensures zone { IfOk result (λ row. row.zone < length zones.now) }
-    ensures thing { IfOk result (λ row. row.thing < length things.now) }
-    ensures small { IfOk result (λ row. row.number ≤ 10 ^ 18) }
+    ensures answer { result ≡ zone_number_in zones.now things.now (line_of row) (get_or table.now row []) }
+    ensures zone { IfOk result (λ row. row.0 < length zones.now) }
+    ensures thing { IfOk result (λ row. row.1 < length things.now) }
+    ensures small { IfOk result (λ row. row.2 ≤ greatest_quantity) }
 {
     let zone = place_at(table, row, 0, zones)?;
     let thing = place_at(table, row, 1, things)?;
     let number = mic6_at(table, row, 2)?;
-    Ok(ZoneNumber {
-        zone: zone as u8,
-        thing,
-        number,
-    })
+    Ok((zone as u8, thing, number))
 }

@@ -8,8 +8,7 @@ use Rattle.mz_tables.specs.declared.fault.RowFault.{RowFault}
 use Rattle.mz_tables.specs.declared.fault.RowFault.TheVariants.{TooMany}
 use Rattle.mz_rows.specs.Rows.{RowReader, at_most, items_of}
 use Rattle.mz_rows.proofs.RowLemmas.{HasRead, has_read-none, has_read-more, has_read-fault, has_read-all, at_most-past, at_most-within, by_line, by_line-is}
-use Rattle.mz_targets.specs.Amounts.{IsAmountRow, amount_in, amount_rows}
-use Rattle.mz_targets.specs.declared.amounts.Amount.{Amount}
+use Rattle.mz_targets.specs.Amounts.{Amount, IsAmountRow, amount_in, amount_rows}
 
 abbrev pub amount_reader : List ℕ → List ℕ → RowReader Amount
 amount_reader units features = at_most 5000000 (by_line (amount_in units features))

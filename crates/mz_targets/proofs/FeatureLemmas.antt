@@ -16,10 +16,10 @@ use Rattle.mz_rows.proofs.RowLemmas.{HasRead, has_read-none, has_read-all, liste
 use Rattle.mz_targets.specs.Features.{IsFeature, IsFeatureList, feature_row_in, feature_rows, features_of, ids_of, names_of, numbers_of}
 use Rattle.mz_targets.specs.declared.features.Feature.{Feature}
 use Rattle.mz_targets.specs.declared.features.FeatureList.{FeatureList}
-use Rattle.mz_targets.specs.declared.features.FeatureRow.{FeatureRow}
+use Rattle.mz_targets.specs.Features.{FeatureRow}
 
 abbrev id_of : FeatureRow → ℕ
-id_of row = row.id
+id_of row = row.0
 
 abbrev pub feature_reader : RowReader FeatureRow
 feature_reader = listed 10000 id_of feature_row_in
@@ -69,33 +69,33 @@ features-fault rows ids names numbers row fault so_far h few is =
     (λ f e. whole-fault rows f (listed-fault 10000 id_of feature_row_in rows so_far.earlier row f so_far.read h few e))
 
 -- an id that stands earlier
-pub features-repeated : (rows : List Row) (ids : List ℕ) (names : List (List ℕ)) (numbers : List Feature) (row : ℕ) (item : FeatureRow) → AreFeaturesSoFar rows ids names numbers row → row < length rows → row < 10000 → feature_row_in (row + 2) (get_or rows row []) ≡ Ok item → has_id ids item.id ≡ true → features_of rows ≡ Err (Repeated (row + 2))
+pub features-repeated : (rows : List Row) (ids : List ℕ) (names : List (List ℕ)) (numbers : List Feature) (row : ℕ) (item : FeatureRow) → AreFeaturesSoFar rows ids names numbers row → row < length rows → row < 10000 → feature_row_in (row + 2) (get_or rows row []) ≡ Ok item → has_id ids item.0 ≡ true → features_of rows ≡ Err (Repeated (row + 2))
 features-repeated rows ids names numbers row item so_far h few e known =
     whole-fault rows (Repeated (row + 2)) (listed-repeated 10000 id_of feature_row_in rows so_far.earlier row item ids so_far.read h few e so_far.ids_are known)
 
-fit-more : (ids : List ℕ) (names : List (List ℕ)) (numbers : List Feature) (item : FeatureRow) → IsFeatureList (list_of ids names numbers) → length ids < 10000 → has_id ids item.id ≡ false → item.id ≤ 2147483647 → IsFeature item.feature → IsFeatureList (list_of (ids ++ item.id ∷ []) (names ++ item.name ∷ []) (numbers ++ item.feature ∷ []))
+fit-more : (ids : List ℕ) (names : List (List ℕ)) (numbers : List Feature) (item : FeatureRow) → IsFeatureList (list_of ids names numbers) → length ids < 10000 → has_id ids item.0 ≡ false → item.0 ≤ 2147483647 → IsFeature item.2 → IsFeatureList (list_of (ids ++ item.0 ∷ []) (names ++ item.1 ∷ []) (numbers ++ item.2 ∷ []))
 fit-more ids names numbers item fit few new small feature = record {
-  few = omega (arith, length_push ids item.id);
-  distinct = distinct-more ids item.id fit.distinct new;
-  in_range = All-push (λ id. id ≤ 2147483647) ids item.id fit.in_range small;
-  all_named = omega (arith, length_push ids item.id, length_push names item.name, fit.all_named);
-  all_rows = omega (arith, length_push ids item.id, length_push numbers item.feature, fit.all_rows);
-  small = All-push IsFeature numbers item.feature fit.small feature;
+  few = omega (arith, length_push ids item.0);
+  distinct = distinct-more ids item.0 fit.distinct new;
+  in_range = All-push (λ id. id ≤ 2147483647) ids item.0 fit.in_range small;
+  all_named = omega (arith, length_push ids item.0, length_push names item.1, fit.all_named);
+  all_rows = omega (arith, length_push ids item.0, length_push numbers item.2, fit.all_rows);
+  small = All-push IsFeature numbers item.2 fit.small feature;
 }
 
 -- one more row
-pub features-more : (rows : List Row) (ids : List ℕ) (names : List (List ℕ)) (numbers : List Feature) (row : ℕ) (item : FeatureRow) (ids' : List ℕ) (names' : List (List ℕ)) (numbers' : List Feature) → AreFeaturesSoFar rows ids names numbers row → row < length rows → row < 10000 → feature_row_in (row + 2) (get_or rows row []) ≡ Ok item → item.id ≤ 2147483647 → IsFeature item.feature → has_id ids item.id ≡ false → ids' ≡ with_id ids item.id → names' ≡ names ++ item.name ∷ [] → numbers' ≡ numbers ++ item.feature ∷ [] → AreFeaturesSoFar rows ids' names' numbers' (row + 1)
+pub features-more : (rows : List Row) (ids : List ℕ) (names : List (List ℕ)) (numbers : List Feature) (row : ℕ) (item : FeatureRow) (ids' : List ℕ) (names' : List (List ℕ)) (numbers' : List Feature) → AreFeaturesSoFar rows ids names numbers row → row < length rows → row < 10000 → feature_row_in (row + 2) (get_or rows row []) ≡ Ok item → item.0 ≤ 2147483647 → IsFeature item.2 → has_id ids item.0 ≡ false → ids' ≡ ids ++ item.0 ∷ [] → names' ≡ names ++ item.1 ∷ [] → numbers' ≡ numbers ++ item.2 ∷ [] → AreFeaturesSoFar rows ids' names' numbers' (row + 1)
 features-more rows ids names numbers row item ids' names' numbers' so_far h few e small feature new ids_e names_e numbers_e =
-    let ids_more : ids' ≡ ids ++ item.id ∷ [] = ids_e ∙ with_id-new ids item.id new in
+    let ids_more : ids' ≡ ids ++ item.0 ∷ [] = ids_e in
     record {
       earlier = so_far.earlier ++ item ∷ [];
       read = listed-more 10000 id_of feature_row_in rows so_far.earlier row item ids so_far.read h few e so_far.ids_are new;
-      ids_are = ids_more ∙ ap (λ (is : List ℕ). is ++ item.id ∷ []) so_far.ids_are ∙ sym (map_push id_of so_far.earlier item);
-      names_are = names_e ∙ ap (λ (ns : List (List ℕ)). ns ++ item.name ∷ []) so_far.names_are ∙ sym (map_push (λ (n : FeatureRow). n.name) so_far.earlier item);
-      numbers_are = numbers_e ∙ ap (λ (ns : List Feature). ns ++ item.feature ∷ []) so_far.numbers_are ∙ sym (map_push (λ (n : FeatureRow). n.feature) so_far.earlier item);
+      ids_are = ids_more ∙ ap (λ (is : List ℕ). is ++ item.0 ∷ []) so_far.ids_are ∙ sym (map_push id_of so_far.earlier item);
+      names_are = names_e ∙ ap (λ (ns : List (List ℕ)). ns ++ item.1 ∷ []) so_far.names_are ∙ sym (map_push (λ (n : FeatureRow). n.1) so_far.earlier item);
+      numbers_are = numbers_e ∙ ap (λ (ns : List Feature). ns ++ item.2 ∷ []) so_far.numbers_are ∙ sym (map_push (λ (n : FeatureRow). n.2) so_far.earlier item);
       fit = subst (λ (is : List ℕ). IsFeatureList (list_of is names' numbers')) (sym ids_more)
-          (subst (λ (ns : List (List ℕ)). IsFeatureList (list_of (ids ++ item.id ∷ []) ns numbers')) (sym names_e)
-          (subst (λ (fs : List Feature). IsFeatureList (list_of (ids ++ item.id ∷ []) (names ++ item.name ∷ []) fs)) (sym numbers_e)
+          (subst (λ (ns : List (List ℕ)). IsFeatureList (list_of (ids ++ item.0 ∷ []) ns numbers')) (sym names_e)
+          (subst (λ (fs : List Feature). IsFeatureList (list_of (ids ++ item.0 ∷ []) (names ++ item.1 ∷ []) fs)) (sym numbers_e)
           (fit-more ids names numbers item so_far.fit (omega (arith, so_far.read.count, ap length so_far.ids_are, length-map so_far.earlier id_of)) new small feature)));
     }
 

@@ -1,4 +1,4 @@
 pub mod FeatureLemmas
 pub mod ZoneTargetLemmas
-pub mod PairSumLemmas
+pub mod SumLemmas
 pub mod AmountLemmas

@@ -3,6 +3,5 @@ pub mod Contribs
 pub mod Features
 pub mod Level
 pub mod Optional
-pub mod PairSums
 pub mod Wanted
 pub mod ZoneTargets

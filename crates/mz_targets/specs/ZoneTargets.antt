@@ -1,6 +1,7 @@
 -- The file of zone targets: what is to be held of a feature in one zone.
-use Rattle.std.specs.Prelude.{ℕ, ◌+◌, ◌*◌, ◌^◌, ◌==◌, ◌≤◌, ◌<◌, Bool, false, nat_lt, List, length, Result, Ok, Err, if◌then◌else◌}
+use Rattle.std.specs.Prelude.{ℕ, ◌+◌, ◌*◌, ◌==◌, ◌≤◌, ◌<◌, Bool, false, nat_lt, List, length, Result, Ok, Err, if◌then◌else◌}
 use Rattle.std.specs.List.{All}
+use Rattle.mz_num.specs.Limits.{greatest_id, greatest_quantity, most_zone_target_rows}
 use Rattle.mz_tables.specs.Table.{Row}
 use Rattle.mz_tables.specs.declared.fault.RowFault.{RowFault}
 use Rattle.mz_tables.specs.declared.fault.RowFault.TheVariants.{LeftOut}
@@ -11,7 +12,7 @@ use Rattle.mz_targets.specs.declared.zone_targets.ZoneTarget.{ZoneTarget}
 
 -- the type that a row has, which is 0 where none stands there
 abbrev pub type_in : ℕ → Row → Result ℕ RowFault
-type_in line row = whole_or 0 2147483647 line row 3
+type_in line row = whole_or 0 greatest_id line row 3
 
 -- the type of a proportion
 abbrev pub is_proportion : Result ℕ RowFault → Bool
@@ -41,15 +42,15 @@ target_place features row = row.zone * features + row.feature
 
 -- the zone targets that a table gives, at most 90,000 and no pair twice, or its first fault
 unfoldable pub zone_targets_of : List ℕ → List ℕ → List Row → Result (List ZoneTarget) RowFault
-zone_targets_of zones features rows = items_of (at_most 90000 (once (target_place (length features)) (λ earlier. zone_target_in zones features (line_behind earlier)))) rows
+zone_targets_of zones features rows = items_of (at_most most_zone_target_rows (once (target_place (length features)) (λ earlier. zone_target_in zones features (line_behind earlier)))) rows
 
 -- places in range, a number within its limit, a type that is taken
 pub record IsZoneTarget (zones features : ℕ) (row : ZoneTarget) : Type 0 where
   pub zone_known : row.zone < zones
   pub feature_known : row.feature < features
-  pub small : row.value ≤ 10 ^ 18
+  pub small : row.value ≤ greatest_quantity
   pub taken : row.kind ≤ 1
 
 pub record AreZoneTargets (zones features : ℕ) (rows : List ZoneTarget) : Type 0 where
-  pub few : length rows ≤ 90000
+  pub few : length rows ≤ most_zone_target_rows
   pub each : All (IsZoneTarget zones features) rows

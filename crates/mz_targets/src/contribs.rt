@@ -1,6 +1,7 @@
 //! The file of contributions: which fraction of a feature's amount a zone holds.
 ghost use Rattle.std.specs.Prelude.{◌≡◌, ◌≤◌, length, IfOk};
 ghost use Rattle.std.specs.List.{All};
+ghost use Rattle.mz_num.specs.Limits.{most_zones};
 ghost use Rattle.mz_rows.specs.Answer.{Gives};
 ghost use Rattle.mz_rows.specs.ByZone.{AreByZone};
 ghost use Rattle.mz_targets.specs.Contribs.{fractions_of};
@@ -19,7 +20,7 @@ pub fn read_contribs(
     zones: &Ids,
     features: &Ids,
 ) -> Result<Vec<u64>, RowFault>
-    requires zones { length zones.now ≤ 60 }
+    requires zones { length zones.now ≤ most_zones }
     requires wide { All (λ row. length row ≡ 3) table.now }
     ensures answer { Gives result (λ fractions. fractions.items) (fractions_of zones.now features.now table.now) }
     ensures fit { IfOk result (λ fractions. AreByZone (length zones.now) (length features.now) fractions.items) }

@@ -1,5 +1,6 @@
 //! What a target asks for.
 ghost use Rattle.std.specs.Prelude.{◌≡◌, ◌≤◌, ◌^◌};
+ghost use Rattle.mz_num.specs.Limits.{greatest_quantity};
 ghost use Rattle.mz_targets.specs.Level.{level};
 
 use mz_num::round_half;
@@ -12,8 +13,8 @@ const ONE: u128 = 1_000_000;
 /// of the manual of Marxan with Zones 1.0.1, the rounding this project's profile.
 #[tactic(auto, unfolding(crate::specs::Level::level))]
 pub fn level_of(value: u64, total: u64, proportion: bool) -> u128
-    requires value { value ≤ 10 ^ 18 }
-    requires total { total ≤ 10 ^ 18 }
+    requires value { value ≤ greatest_quantity }
+    requires total { total ≤ greatest_quantity }
     ensures { result ≡ level value total proportion }
 {
     if proportion {

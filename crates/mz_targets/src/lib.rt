@@ -8,7 +8,6 @@ mod contribs;
 mod features;
 mod level;
 mod optional;
-mod pair_sums;
 #[cfg(test)]
 mod tests;
 mod wanted;

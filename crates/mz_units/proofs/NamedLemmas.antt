@@ -11,13 +11,13 @@ use Rattle.mz_tables.specs.declared.fault.RowFault.TheVariants.{TooMany, Repeate
 use Rattle.mz_rows.specs.Answer.{IsFaultOf}
 use Rattle.mz_units.specs.Named.{IsNamedList, named_in, named_rows, named_list_of, ids_of, names_of}
 use Rattle.mz_rows.specs.Rows.{RowReader, go_on, items_of}
-use Rattle.mz_units.specs.declared.named.Named.{Named}
+use Rattle.mz_units.specs.Named.{Named}
 use Rattle.mz_rows.proofs.AnswerLemmas.{fault-on}
 use Rattle.mz_rows.proofs.IdLemmas.{distinct-more, with_id-new}
 use Rattle.mz_rows.proofs.RowLemmas.{HasRead, has_read-none, has_read-all, listed, listed-past, listed-fault, listed-repeated, listed-more}
 
 abbrev id_of : Named → ℕ
-id_of named = named.id
+id_of named = named.0
 
 abbrev pub named_reader : RowReader Named
 named_reader = listed 60 id_of named_in
@@ -46,7 +46,7 @@ named-none rows ids names no_ids no_names = record {
 
 whole-fault : (rows : List Row) (fault : RowFault) → items_of named_reader rows ≡ Err fault → named_list_of rows ≡ Err fault
 unfolding named_list_of named_rows
-whole-fault rows fault e = ap (λ (r : Result (List Named) RowFault). go_on r (λ named. Ok (record { ids = ids_of named; names = names_of named }))) e
+whole-fault rows fault e = ap (λ (r : Result (List Named) RowFault). go_on r (λ named. Ok (ids_of named, names_of named))) e
 
 -- a row too many
 pub named-too_many : (rows : List Row) (ids : List ℕ) (names : List (List ℕ)) (row : ℕ) → IsNamedSoFar rows ids names row → row < length rows → 60 ≤ row → named_list_of rows ≡ Err (TooMany (row + 2))
@@ -59,7 +59,7 @@ named-fault rows ids names row fault so_far h few is =
     (λ f e. whole-fault rows f (listed-fault 60 id_of named_in rows so_far.earlier row f so_far.read h few e))
 
 -- an id that stands earlier
-pub named-repeated : (rows : List Row) (ids : List ℕ) (names : List (List ℕ)) (row : ℕ) (named : Named) → IsNamedSoFar rows ids names row → row < length rows → row < 60 → named_in (row + 2) (get_or rows row []) ≡ Ok named → has_id ids named.id ≡ true → named_list_of rows ≡ Err (Repeated (row + 2))
+pub named-repeated : (rows : List Row) (ids : List ℕ) (names : List (List ℕ)) (row : ℕ) (named : Named) → IsNamedSoFar rows ids names row → row < length rows → row < 60 → named_in (row + 2) (get_or rows row []) ≡ Ok named → has_id ids named.0 ≡ true → named_list_of rows ≡ Err (Repeated (row + 2))
 named-repeated rows ids names row named so_far h few e known =
     whole-fault rows (Repeated (row + 2)) (listed-repeated 60 id_of named_in rows so_far.earlier row named ids so_far.read h few e so_far.ids_are known)
 
@@ -72,21 +72,21 @@ fit-more ids names id name fit few new small = record {
 }
 
 -- one more row
-pub named-more : (rows : List Row) (ids : List ℕ) (names : List (List ℕ)) (row : ℕ) (named : Named) (ids' : List ℕ) (names' : List (List ℕ)) → IsNamedSoFar rows ids names row → row < length rows → row < 60 → named_in (row + 2) (get_or rows row []) ≡ Ok named → named.id ≤ 2147483647 → has_id ids named.id ≡ false → ids' ≡ with_id ids named.id → names' ≡ names ++ named.name ∷ [] → IsNamedSoFar rows ids' names' (row + 1)
+pub named-more : (rows : List Row) (ids : List ℕ) (names : List (List ℕ)) (row : ℕ) (named : Named) (ids' : List ℕ) (names' : List (List ℕ)) → IsNamedSoFar rows ids names row → row < length rows → row < 60 → named_in (row + 2) (get_or rows row []) ≡ Ok named → named.0 ≤ 2147483647 → has_id ids named.0 ≡ false → ids' ≡ ids ++ named.0 ∷ [] → names' ≡ names ++ named.1 ∷ [] → IsNamedSoFar rows ids' names' (row + 1)
 named-more rows ids names row named ids' names' so_far h few e small new ids_e names_e =
-    let ids_more : ids' ≡ ids ++ named.id ∷ [] = ids_e ∙ with_id-new ids named.id new in
+    let ids_more : ids' ≡ ids ++ named.0 ∷ [] = ids_e in
     record {
       earlier = so_far.earlier ++ named ∷ [];
       read = listed-more 60 id_of named_in rows so_far.earlier row named ids so_far.read h few e so_far.ids_are new;
-      ids_are = ids_more ∙ ap (λ (is : List ℕ). is ++ named.id ∷ []) so_far.ids_are ∙ sym (map_push id_of so_far.earlier named);
-      names_are = names_e ∙ ap (λ (ns : List (List ℕ)). ns ++ named.name ∷ []) so_far.names_are ∙ sym (map_push (λ (n : Named). n.name) so_far.earlier named);
-      fit = subst (λ (is : List ℕ). IsNamedList is names') (sym ids_more) (subst (λ (ns : List (List ℕ)). IsNamedList (ids ++ named.id ∷ []) ns) (sym names_e)
-          (fit-more ids names named.id named.name so_far.fit (omega (arith, so_far.read.count, ap length so_far.ids_are, length-map so_far.earlier id_of)) new small));
+      ids_are = ids_more ∙ ap (λ (is : List ℕ). is ++ named.0 ∷ []) so_far.ids_are ∙ sym (map_push id_of so_far.earlier named);
+      names_are = names_e ∙ ap (λ (ns : List (List ℕ)). ns ++ named.1 ∷ []) so_far.names_are ∙ sym (map_push (λ (n : Named). n.1) so_far.earlier named);
+      fit = subst (λ (is : List ℕ). IsNamedList is names') (sym ids_more) (subst (λ (ns : List (List ℕ)). IsNamedList (ids ++ named.0 ∷ []) ns) (sym names_e)
+          (fit-more ids names named.0 named.1 so_far.fit (omega (arith, so_far.read.count, ap length so_far.ids_are, length-map so_far.earlier id_of)) new small));
     }
 
 -- no row is left
-pub named-all : (rows : List Row) (ids : List ℕ) (names names' : List (List ℕ)) (row : ℕ) → IsNamedSoFar rows ids names row → length rows ≤ row → names' ≡ names → named_list_of rows ≡ Ok (record { ids = ids; names = names' })
+pub named-all : (rows : List Row) (ids : List ℕ) (names names' : List (List ℕ)) (row : ℕ) → IsNamedSoFar rows ids names row → length rows ≤ row → names' ≡ names → named_list_of rows ≡ Ok (ids, names')
 unfolding named_list_of named_rows
 named-all rows ids names names' row so_far h same =
-    ap (λ (r : Result (List Named) RowFault). go_on r (λ named. Ok (record { ids = ids_of named; names = names_of named }))) (has_read-all named_reader rows so_far.earlier row so_far.read h)
+    ap (λ (r : Result (List Named) RowFault). go_on r (λ named. Ok (ids_of named, names_of named))) (has_read-all named_reader rows so_far.earlier row so_far.read h)
     ∙ cc (so_far.ids_are, so_far.names_are, same)

@@ -12,7 +12,7 @@ use Rattle.mz_tables.specs.declared.fault.RowFault.TheVariants.{TooMany, Repeate
 use Rattle.mz_rows.specs.Answer.{IsFaultOf}
 use Rattle.mz_rows.specs.Rows.{RowReader, go_on, items_of}
 use Rattle.mz_units.specs.UnitRows.{IsUnitList, costs_in, unit_in, unit_list, unit_rows, units_of}
-use Rattle.mz_units.specs.declared.units.UnitRow.{UnitRow}
+use Rattle.mz_units.specs.UnitRows.{UnitRow}
 use Rattle.mz_rows.proofs.AnswerLemmas.{fault-on}
 use Rattle.mz_rows.proofs.IdLemmas.{distinct-more, with_id-new}
 use Rattle.mz_rows.proofs.RowLemmas.{HasRead, has_read-none, has_read-all, listed, listed-past, listed-fault, listed-repeated, listed-more}
@@ -31,10 +31,10 @@ pub record AreCostsSoFar (line : ℕ) (row : Row) (costs : List ℕ) (place : �
 -- ---- the rows of the file
 
 abbrev id_of : UnitRow → ℕ
-id_of unit = unit.id
+id_of unit = unit.0
 
 abbrev costs_of : UnitRow → List ℕ
-costs_of unit = unit.costs
+costs_of unit = unit.1
 
 abbrev pub unit_reader : RowReader UnitRow
 unit_reader = listed 100000 id_of unit_in
@@ -79,36 +79,36 @@ units-fault width rows ids unit_costs row fault so_far h few is =
     fault-on fault (unit_in (row + 2) (get_or rows row [])) (units_of rows) is
     (λ f e. whole-fault rows f (listed-fault 100000 id_of unit_in rows so_far.earlier row f so_far.read h few e))
 
-pub units-repeated : (width : ℕ) (rows : List Row) (ids unit_costs : List ℕ) (row : ℕ) (unit : UnitRow) → AreUnitsSoFar width rows ids unit_costs row → row < length rows → row < 100000 → unit_in (row + 2) (get_or rows row []) ≡ Ok unit → has_id ids unit.id ≡ true → units_of rows ≡ Err (Repeated (row + 2))
+pub units-repeated : (width : ℕ) (rows : List Row) (ids unit_costs : List ℕ) (row : ℕ) (unit : UnitRow) → AreUnitsSoFar width rows ids unit_costs row → row < length rows → row < 100000 → unit_in (row + 2) (get_or rows row []) ≡ Ok unit → has_id ids unit.0 ≡ true → units_of rows ≡ Err (Repeated (row + 2))
 units-repeated width rows ids unit_costs row unit so_far h few e known =
     whole-fault rows (Repeated (row + 2)) (listed-repeated 100000 id_of unit_in rows so_far.earlier row unit ids so_far.read h few e so_far.ids_are known)
 
 more_costs : (n width : ℕ) → (n + 1) * width ≡ n * width + width
 more_costs n width = omega arith
 
-fit-more : (width : ℕ) (ids unit_costs : List ℕ) (unit : UnitRow) → IsUnitList width (record { ids = ids; costs = unit_costs }) → length ids < 100000 → has_id ids unit.id ≡ false → unit.id ≤ 2147483647 → length unit.costs ≡ width → All (λ cost. cost ≤ 10 ^ 18) unit.costs → IsUnitList width (record { ids = ids ++ unit.id ∷ []; costs = unit_costs ++ unit.costs })
+fit-more : (width : ℕ) (ids unit_costs : List ℕ) (unit : UnitRow) → IsUnitList width (record { ids = ids; costs = unit_costs }) → length ids < 100000 → has_id ids unit.0 ≡ false → unit.0 ≤ 2147483647 → length unit.1 ≡ width → All (λ cost. cost ≤ 10 ^ 18) unit.1 → IsUnitList width (record { ids = ids ++ unit.0 ∷ []; costs = unit_costs ++ unit.1 })
 fit-more width ids unit_costs unit fit few new small wide small_costs = record {
-  few = omega (arith, length_push ids unit.id);
-  distinct = distinct-more ids unit.id fit.distinct new;
-  in_range = All-push (λ id. id ≤ 2147483647) ids unit.id fit.in_range small;
-  all_costs = length-append unit_costs unit.costs ∙ ap (λ n. n + length unit.costs) fit.all_costs ∙ ap (λ n. length ids * width + n) wide ∙ sym (more_costs (length ids) width) ∙ ap (λ n. n * width) (sym (length_push ids unit.id));
-  small = All-append (λ cost. cost ≤ 10 ^ 18) unit_costs unit.costs fit.small small_costs;
+  few = omega (arith, length_push ids unit.0);
+  distinct = distinct-more ids unit.0 fit.distinct new;
+  in_range = All-push (λ id. id ≤ 2147483647) ids unit.0 fit.in_range small;
+  all_costs = length-append unit_costs unit.1 ∙ ap (λ n. n + length unit.1) fit.all_costs ∙ ap (λ n. length ids * width + n) wide ∙ sym (more_costs (length ids) width) ∙ ap (λ n. n * width) (sym (length_push ids unit.0));
+  small = All-append (λ cost. cost ≤ 10 ^ 18) unit_costs unit.1 fit.small small_costs;
 }
 
-one_more : (units : List UnitRow) (unit : UnitRow) → flat_map costs_of (units ++ unit ∷ []) ≡ flat_map costs_of units ++ unit.costs
-one_more units unit = flat_map-append costs_of units (unit ∷ []) ∙ ap (λ (cs : List ℕ). flat_map costs_of units ++ cs) (append-nil unit.costs)
+one_more : (units : List UnitRow) (unit : UnitRow) → flat_map costs_of (units ++ unit ∷ []) ≡ flat_map costs_of units ++ unit.1
+one_more units unit = flat_map-append costs_of units (unit ∷ []) ∙ ap (λ (cs : List ℕ). flat_map costs_of units ++ cs) (append-nil unit.1)
 
-pub units-more : (width : ℕ) (rows : List Row) (ids unit_costs : List ℕ) (row : ℕ) (unit : UnitRow) (ids' unit_costs' : List ℕ) → AreUnitsSoFar width rows ids unit_costs row → row < length rows → row < 100000 → unit_in (row + 2) (get_or rows row []) ≡ Ok unit → unit.id ≤ 2147483647 → length unit.costs ≡ width → All (λ cost. cost ≤ 10 ^ 18) unit.costs → has_id ids unit.id ≡ false → ids' ≡ with_id ids unit.id → unit_costs' ≡ unit_costs ++ unit.costs → AreUnitsSoFar width rows ids' unit_costs' (row + 1)
+pub units-more : (width : ℕ) (rows : List Row) (ids unit_costs : List ℕ) (row : ℕ) (unit : UnitRow) (ids' unit_costs' : List ℕ) → AreUnitsSoFar width rows ids unit_costs row → row < length rows → row < 100000 → unit_in (row + 2) (get_or rows row []) ≡ Ok unit → unit.0 ≤ 2147483647 → length unit.1 ≡ width → All (λ cost. cost ≤ 10 ^ 18) unit.1 → has_id ids unit.0 ≡ false → ids' ≡ ids ++ unit.0 ∷ [] → unit_costs' ≡ unit_costs ++ unit.1 → AreUnitsSoFar width rows ids' unit_costs' (row + 1)
 units-more width rows ids unit_costs row unit ids' unit_costs' so_far h few e small wide small_costs new ids_e costs_e =
-    let ids_more : ids' ≡ ids ++ unit.id ∷ [] = ids_e ∙ with_id-new ids unit.id new in
+    let ids_more : ids' ≡ ids ++ unit.0 ∷ [] = ids_e in
     let count : length ids ≡ row = ap length so_far.ids_are ∙ length-map so_far.earlier id_of ∙ so_far.read.count in
     record {
       earlier = so_far.earlier ++ unit ∷ [];
       read = listed-more 100000 id_of unit_in rows so_far.earlier row unit ids so_far.read h few e so_far.ids_are new;
-      ids_are = ids_more ∙ ap (λ (is : List ℕ). is ++ unit.id ∷ []) so_far.ids_are ∙ sym (map_push id_of so_far.earlier unit);
-      costs_are = costs_e ∙ ap (λ (cs : List ℕ). cs ++ unit.costs) so_far.costs_are ∙ sym (one_more so_far.earlier unit);
+      ids_are = ids_more ∙ ap (λ (is : List ℕ). is ++ unit.0 ∷ []) so_far.ids_are ∙ sym (map_push id_of so_far.earlier unit);
+      costs_are = costs_e ∙ ap (λ (cs : List ℕ). cs ++ unit.1) so_far.costs_are ∙ sym (one_more so_far.earlier unit);
       fit = subst (λ (is : List ℕ). IsUnitList width (record { ids = is; costs = unit_costs' })) (sym ids_more)
-          (subst (λ (cs : List ℕ). IsUnitList width (record { ids = ids ++ unit.id ∷ []; costs = cs })) (sym costs_e)
+          (subst (λ (cs : List ℕ). IsUnitList width (record { ids = ids ++ unit.0 ∷ []; costs = cs })) (sym costs_e)
           (fit-more width ids unit_costs unit so_far.fit (omega arith) new small wide small_costs));
     }
 

@@ -1,6 +1,7 @@
 -- The cost terms: what a unit costs in a zone.
-use Rattle.std.specs.Prelude.{ℕ, ◌+◌, ◌*◌, ◌^◌, ◌≡◌, ◌<◌, ◌≤◌, List, length, slice_index}
+use Rattle.std.specs.Prelude.{ℕ, ◌+◌, ◌*◌, ◌≡◌, ◌<◌, ◌≤◌, List, length, slice_index}
 use Rattle.std.specs.List.{range_with_len, sum_by}
+use Rattle.mz_num.specs.Limits.{million, most_costs}
 use Rattle.mz_num.specs.Round.{round}
 use Rattle.mz_units.specs.declared.units.UnitList.{UnitList}
 
@@ -10,7 +11,7 @@ weighed_sum costs unit_costs mult unit zone = sum_by (λ cost. slice_index mult 
 
 -- the term of a unit in a zone, in ten-thousandths
 unfoldable pub cost_term : ℕ → List ℕ → List ℕ → ℕ → ℕ → ℕ
-cost_term costs unit_costs mult unit zone = round (weighed_sum costs unit_costs mult unit zone) (10 ^ 6)
+cost_term costs unit_costs mult unit zone = round (weighed_sum costs unit_costs mult unit zone) million
 
 -- the term of each unit in each zone, at `unit * zones + zone`
 pub record AreCostTerms (costs : ℕ) (units : UnitList) (mult : List ℕ) (zones : ℕ) (terms : List ℕ) : Type 0 where
@@ -19,6 +20,6 @@ pub record AreCostTerms (costs : ℕ) (units : UnitList) (mult : List ℕ) (zone
 
 -- so many costs for each unit, and as many multipliers for each zone
 pub record HasCosts (costs : ℕ) (units : UnitList) (mult : List ℕ) (zones : ℕ) : Type 0 where
-  pub few : costs ≤ 60
+  pub few : costs ≤ most_costs
   pub unit_costs : length units.costs ≡ length units.ids * costs
   pub multipliers : length mult ≡ zones * costs

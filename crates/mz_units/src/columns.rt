@@ -46,13 +46,11 @@ pub fn cost_columns() -> &'static [Column]
 pub fn unit_id_columns() -> &'static [Column]
     ensures { map want_of result.now ≡ unit_id_columns }
 {
-    &[
-        Column {
-            name: "id",
-            other: "",
-            needed: true,
-        },
-    ]
+    &[Column {
+        name: "id",
+        other: "",
+        needed: true,
+    }]
 }
 
 /// The columns of zone costs.

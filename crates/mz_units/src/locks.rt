@@ -1,6 +1,7 @@
 //! The file of locks: a unit that is locked to a zone.
 ghost use Rattle.std.specs.Prelude.{ℕ, ◌≡◌, ◌<◌, ◌≤◌, length, slice_index, IfOk};
 ghost use Rattle.std.specs.List.{All};
+ghost use Rattle.mz_num.specs.Limits.{most_zones};
 ghost use Rattle.mz_rows.specs.Answer.{Gives};
 ghost use Rattle.mz_units.specs.Locks.{IsNarrowed, locked_sets_of};
 ghost use Rattle.mz_num.specs.ZoneSet.{IsZoneSet};
@@ -20,7 +21,7 @@ pub fn read_locks(
     zones: &Ids,
     allowed: &[u64],
 ) -> Result<Vec<u64>, RowFault>
-    requires zones { length zones.now ≤ 60 }
+    requires zones { length zones.now ≤ most_zones }
     requires allowed { length allowed.now ≡ length units.now }
     requires wide { All (λ row. length row ≡ 2) table.now }
     ensures answer { Gives result (λ sets. sets.items) (locked_sets_of units.now zones.now allowed.now table.now) }
@@ -28,23 +29,19 @@ pub fn read_locks(
     ensures narrowed { IfOk result (λ sets. (unit : ℕ) → unit < length units.now → IsNarrowed (length zones.now) (slice_index allowed.now unit) (slice_index sets.items unit)) }
     ensures sets { IfOk result (λ sets. All (IsZoneSet (length zones.now)) allowed.now → All (IsZoneSet (length zones.now)) sets.items) }
 {
-    let Ok(mut locked) = vec![in alloc; false; allowed.len()] else {
-        return Err(RowFault::NoMemory);
-    };
-    let Ok(mut sets) = allowed.to_vec(alloc) else {
-        return Err(RowFault::NoMemory);
-    };
+    let mut locked = vec![in alloc; false; allowed.len()]?;
+    let mut sets = allowed.to_vec(alloc)?;
     for row in 0..table.rows() {
         let lock = read_unit_zone(table, row, units, zones)?;
-        let unit = lock.unit as usize;
+        let unit = lock.0 as usize;
         if locked[unit] {
-            return Err(RowFault::Repeated(row + 2));
+            return Err(RowFault::Repeated(table.line(row)));
         }
-        if (allowed[unit] >> lock.zone) & 1 != 1 {
-            return Err(RowFault::LockConflict(row + 2, units.id(lock.unit)));
+        if (allowed[unit] >> lock.1) & 1 != 1 {
+            return Err(RowFault::LockConflict(table.line(row), units.id(lock.0)));
         }
         locked[unit] = true;
-        sets[unit] = 1 << lock.zone;
+        sets[unit] = 1 << lock.1;
     }
     Ok(sets)
 }

@@ -1,6 +1,7 @@
 //! The cost terms: what a unit costs in a zone.
 ghost use Rattle.std.specs.Prelude.{ℕ, ◌≡◌, ◌<◌, ◌≤◌, ◌+◌, ◌*◌, ◌^◌, ◌++◌, length, IfOk, OnOk};
 ghost use Rattle.std.specs.List.{All};
+ghost use Rattle.mz_num.specs.Limits.{greatest_quantity, most_costs, most_zones};
 ghost use Rattle.mz_num.specs.Places.{list_below};
 ghost use Rattle.mz_units.specs.Terms.{AreCostTerms, HasCosts, cost_term};
 
@@ -20,10 +21,10 @@ pub fn cost_terms(
     mult: &[u64],
     zones: u8,
 ) -> Result<Vec<u128>, NoMemory>
-    requires zones { zones ≤ 60 }
+    requires zones { zones ≤ most_zones }
     requires costs { (costs : ℕ) × HasCosts costs units.now mult.now zones }
-    requires small_costs { All (λ cost. cost ≤ 10 ^ 18) units.now.costs }
-    requires small_multipliers { All (λ multiplier. multiplier ≤ 10 ^ 18) mult.now }
+    requires small_costs { All (λ cost. cost ≤ greatest_quantity) units.now.costs }
+    requires small_multipliers { All (λ multiplier. multiplier ≤ greatest_quantity) mult.now }
     ensures { IfOk result (λ terms. (costs : ℕ) → HasCosts costs units.now mult.now zones → AreCostTerms costs units.now mult.now zones terms.items) }
 {
     let costs = cost_count(mult.len(), zones);
@@ -62,11 +63,11 @@ fn push_terms(
     unit: usize,
     zones: u8,
 ) -> Result<(), NoMemory>
-    requires few { costs ≤ 60 }
+    requires few { costs ≤ most_costs }
     requires unit { unit * costs + costs ≤ length unit_costs.now }
     requires zones { zones * costs ≤ length mult.now }
-    requires small_costs { All (λ cost. cost ≤ 10 ^ 18) unit_costs.now }
-    requires small_multipliers { All (λ multiplier. multiplier ≤ 10 ^ 18) mult.now }
+    requires small_costs { All (λ cost. cost ≤ greatest_quantity) unit_costs.now }
+    requires small_multipliers { All (λ multiplier. multiplier ≤ greatest_quantity) mult.now }
     ensures { OnOk result (terms.new.items ≡ terms.old.items ++ list_below zones (cost_term costs unit_costs.now mult.now unit)) }
 {
     for zone in 0..zones {
@@ -77,11 +78,11 @@ fn push_terms(
 
 /// The term of a unit in a zone.
 fn term(unit_costs: &[u64], mult: &[u64], costs: usize, unit: usize, zone: usize) -> u128
-    requires few { costs ≤ 60 }
+    requires few { costs ≤ most_costs }
     requires unit { unit * costs + costs ≤ length unit_costs.now }
     requires zone { zone * costs + costs ≤ length mult.now }
-    requires small_costs { All (λ cost. cost ≤ 10 ^ 18) unit_costs.now }
-    requires small_multipliers { All (λ multiplier. multiplier ≤ 10 ^ 18) mult.now }
+    requires small_costs { All (λ cost. cost ≤ greatest_quantity) unit_costs.now }
+    requires small_multipliers { All (λ multiplier. multiplier ≤ greatest_quantity) mult.now }
     ensures { result ≡ cost_term costs unit_costs.now mult.now unit zone }
 {
     let mut sum = 0;

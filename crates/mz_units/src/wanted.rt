@@ -1,5 +1,6 @@
 //! The columns that the tables are read for.
 ghost use Rattle.std.specs.Prelude.{◌≡◌, ◌≤◌, length, IfOk};
+ghost use Rattle.mz_num.specs.Limits.{most_costs};
 ghost use Rattle.mz_units.specs.Wanted.{cost_columns, unit_columns, unit_zone_columns, zone_columns, zone_cost_columns};
 
 use crate::columns;
@@ -24,7 +25,7 @@ pub fn wants_costs(alloc: Global) -> Result<Wants, NoMemory>
 
 /// The columns of units, which are those of these costs behind the id.
 pub fn wants_units(alloc: Global, costs: &CostList) -> Result<Wants, NoMemory>
-    requires { length costs.now.names ≤ 60 }
+    requires { length costs.now.names ≤ most_costs }
     ensures { IfOk result (λ wants. wants ≡ unit_columns costs.now.names) }
 {
     let mut wants = Wants::of(alloc, columns::unit_id_columns())?;

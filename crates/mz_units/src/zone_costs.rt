@@ -1,6 +1,7 @@
 //! The file of zone costs: what a zone multiplies a cost by.
 ghost use Rattle.std.specs.Prelude.{◌≡◌, ◌≤◌, length, IfOk};
 ghost use Rattle.std.specs.List.{All};
+ghost use Rattle.mz_num.specs.Limits.{most_costs, most_zones};
 ghost use Rattle.mz_rows.specs.Answer.{Gives};
 ghost use Rattle.mz_rows.specs.ByZone.{AreByZone};
 ghost use Rattle.mz_units.specs.ZoneCosts.{multipliers_of};
@@ -19,8 +20,8 @@ pub fn read_zone_costs(
     zones: &Ids,
     costs: &Ids,
 ) -> Result<Vec<u64>, RowFault>
-    requires zones { length zones.now ≤ 60 }
-    requires costs { length costs.now ≤ 60 }
+    requires zones { length zones.now ≤ most_zones }
+    requires costs { length costs.now ≤ most_costs }
     requires wide { All (λ row. length row ≡ 3) table.now }
     ensures answer { Gives result (λ mult. mult.items) (multipliers_of zones.now costs.now table.now) }
     ensures fit { IfOk result (λ mult. AreByZone (length zones.now) (length costs.now) mult.items) }

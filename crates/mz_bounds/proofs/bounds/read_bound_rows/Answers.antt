@@ -6,14 +6,14 @@ use Rattle.mz_bounds.proofs.BoundLemmas.{bounds-all, bounds-fault, bounds-more, 
 use Rattle.mz_bounds.proofs.bounds.read_bound_rows.Goals as goal
 
 pub loop-row-init : goal.loop-row-init
-loop-row-init c = bounds-none c.args.units.now c.args.table.now c.new-rows.result.items c.new-rows.ensures.items
+loop-row-init c = bounds-none c.args.units.now c.args.table.now c.in_ok-rows.rows.items c.in_ok-rows.ensures.items
 
 pub returns-then-row-ge-MOST_ROWS-clause-answer : goal.returns-then-row-ge-MOST_ROWS-clause-answer
-returns-then-row-ge-MOST_ROWS-clause-answer c = bounds-too_many c.args.units.now c.args.table.now c.loop-row.rows.items c.loop-row.row c.loop-row.invariant (omega (arith, c.rows-row-end.ensures.rows)) (omega arith)
+returns-then-row-ge-MOST_ROWS-clause-answer c = rw c.line.ensures (bounds-too_many c.args.units.now c.args.table.now c.loop-row.rows.items c.loop-row.row c.loop-row.invariant (omega (arith, c.rows-row-end.ensures.rows)) (omega arith))
 
 pub returns-in_err-bound-clause-answer : goal.returns-in_err-bound-clause-answer
 returns-in_err-bound-clause-answer c =
-    let passed = err_from_is_err_and c.from_residual.result c.from_residual.ensures.1 in
+    let passed = err_from_is_err_and c.from_residual-in_err-bound.result c.from_residual-in_err-bound.ensures.1 in
     rw (passed.1, passed.2) (fault-is c.in_err-bound.field-0.0 (bound_rows c.args.units.now c.args.table.now)
     (bounds-fault c.args.units.now c.args.table.now c.loop-row.rows.items c.loop-row.row c.in_err-bound.field-0.0 c.loop-row.invariant (omega (arith, c.rows-row-end.ensures.rows)) (omega arith) (sym c.in_err-bound.ensures.answer)))
 

@@ -20,29 +20,29 @@ else_before sets unit before mark e unmarked = e ∙ sym (ap (λ b. cond b (get_
 
 pub loop-row-init : goal.loop-row-init
 loop-row-init c =
-    zone_sets-none c.args.units.now c.args.zones.now c.args.table.now c.in-Ok.limited.items c.in-Ok-vec.sets.items _ _ c.len-2.ensures.len
+    zone_sets-none c.args.units.now c.args.zones.now c.args.table.now c.in_ok-limited.limited.items c.in_ok-sets.sets.items _ _ c.len-2.ensures.len
     (every_zone c.len.result (length c.args.zones.now) c.len.ensures.len (omega (arith, c.requires.zones)))
-    (c.in-Ok.ensures.items_if_clones_equal (search rules)) (grind (arith, c.in-Ok-vec.ensures.items_if_clones_equal (search rules), c.len-2.ensures.len, c.len-3.ensures.len))
+    (c.in_ok-limited.ensures.items_if_clones_equal (search rules)) (grind (arith, c.in_ok-sets.ensures.items_if_clones_equal (search rules), c.len-2.ensures.len, c.len-3.ensures.len))
 
 pub returns-then-row-ge-MOST_ROWS-clause-answer : goal.returns-then-row-ge-MOST_ROWS-clause-answer
-returns-then-row-ge-MOST_ROWS-clause-answer c = zone_sets-too_many c.args.units.now c.args.zones.now c.args.table.now c.loop-row.limited.items c.loop-row.sets.items c.loop-row.row c.loop-row.invariant (omega (arith, c.rows-row-end.ensures.rows)) (omega arith)
+returns-then-row-ge-MOST_ROWS-clause-answer c = rw c.line.ensures (zone_sets-too_many c.args.units.now c.args.zones.now c.args.table.now c.loop-row.limited.items c.loop-row.sets.items c.loop-row.row c.loop-row.invariant (omega (arith, c.rows-row-end.ensures.rows)) (omega arith))
 
 pub returns-in_err-listed-clause-answer : goal.returns-in_err-listed-clause-answer
 returns-in_err-listed-clause-answer c =
-    let passed = err_from_is_err_and c.from_residual.result c.from_residual.ensures.1 in
+    let passed = err_from_is_err_and c.from_residual-in_err-listed.result c.from_residual-in_err-listed.ensures.1 in
     rw (passed.1, passed.2) (fault-is c.in_err-listed.field-0.0 (zone_sets_of c.args.units.now c.args.zones.now c.args.table.now)
     (zone_sets-fault c.args.units.now c.args.zones.now c.args.table.now c.loop-row.limited.items c.loop-row.sets.items c.loop-row.row c.in_err-listed.field-0.0 c.loop-row.invariant (omega (arith, c.rows-row-end.ensures.rows)) (omega arith) (sym c.in_err-listed.ensures.answer)))
 
 pub loop-row-preserved : goal.loop-row-preserved
 loop-row-preserved c =
     let size : length c.loop-row.sets.items ≡ length c.args.units.now = length-zone_sets c.args.units.now c.args.zones.now c.args.table.now c.loop-row.limited.items c.loop-row.sets.items c.loop-row.row c.loop-row.invariant in
-    let unit : c.in_ok-listed.listed.unit < length c.args.units.now = c.in_ok-listed.ensures.unit in
-    let was : c.if-index.others ≡ cond c.index.result.now (get_or c.loop-row.sets.items c.in_ok-listed.listed.unit 0) 0 = elim c.if-index.branch [
-      | then-index w ↦ then_before c.loop-row.sets.items c.in_ok-listed.listed.unit c.if-index.others w.index-then-index.result.now c.index.result.now (omega arith) w.others-is w.index-then-index.ensures w.if-index.true
-      | else-index w ↦ else_before c.loop-row.sets.items c.in_ok-listed.listed.unit c.if-index.others c.index.result.now w.others-is w.if-index.false
+    let unit : c.in_ok-listed.listed.0 < length c.args.units.now = c.in_ok-listed.ensures.unit in
+    let was : c.if-index.others ≡ cond c.index.result.now (get_or c.loop-row.sets.items c.in_ok-listed.listed.0 0) 0 = elim c.if-index.branch [
+      | then-index w ↦ then_before c.loop-row.sets.items c.in_ok-listed.listed.0 c.if-index.others w.index-then-index.result.now c.index.result.now (omega arith) w.others-is w.index-then-index.ensures w.if-index.true
+      | else-index w ↦ else_before c.loop-row.sets.items c.in_ok-listed.listed.0 c.if-index.others c.index.result.now w.others-is w.if-index.false
     ] in
     zone_sets-more c.args.units.now c.args.zones.now c.args.table.now c.loop-row.limited.items c.loop-row.sets.items c.loop-row.row c.in_ok-listed.listed c.index.result.now c.index.result.now c.if-index.others _ c.loop-row.invariant (omega (arith, c.rows-row-end.ensures.rows)) (omega arith) (sym c.in_ok-listed.ensures.answer) c.in_ok-listed.ensures.unit c.in_ok-listed.ensures.zone c.index.ensures was
-    (one_shl c.in_ok-listed.listed.zone 64 (omega (arith, c.in_ok-listed.ensures.zone, c.requires.zones)))
+    (one_shl c.in_ok-listed.listed.1 64 (omega (arith, c.in_ok-listed.ensures.zone, c.requires.zones)))
 
 pub returns-clause-answer : goal.returns-clause-answer
 returns-clause-answer c = zone_sets-all c.args.units.now c.args.zones.now c.args.table.now c.loop-row.limited.items c.loop-row.sets.items c.loop-row.row c.loop-row.invariant (omega (arith, c.rows-row-end.ensures.rows))
