@@ -1,15 +1,17 @@
 -- Laws of what stands round a reading's unit.
-use Rattle.std.proofs.Common.{◌≡◌, ℕ, ◌+◌, ◌-◌, ◌<◌, ◌≤◌, ◌^◌, List, [], ◌∷◌, ◌++◌, length, get_or, ap, sym, ◌∙◌, subst, arith}
+use Rattle.std.proofs.Common.{◌≡◌, ℕ, ◌+◌, ◌-◌, ◌<◌, ◌≤◌, ◌^◌, List, [], ◌∷◌, ◌++◌, length, get_or, refl, ap, sym, ◌∙◌, ◌*◌, subst, arith}
 use Rattle.std.specs.Prelude.{pos, ◌-ℤ◌, IsTrue, slice_index}
 use Rattle.std.proofs.lemmas.List.Elements.{All-get_or}
 use Rattle.mz_model.specs.declared.parts.Parts.{Parts}
 use Rattle.mz_model.specs.Boundary.{edge_term_of, neighbours_of}
-use Rattle.mz_model.specs.Parts.{unit_count, zone_count, outer_at}
+use Rattle.mz_model.specs.Parts.{unit_count, zone_count, outer_at, rate_at}
 use Rattle.mz_num.specs.Places.{list_below, sum_below}
 use Rattle.mz_model.specs.Scores.{penalty_term_of}
 use Rattle.mz_model.specs.Targets.{gain_from, gain_of, touched_rows, touches_of}
 use Rattle.mz_model.specs.Valid.{IsValid}
 use Rattle.mz_model.specs.Zones.{is_allowed}
+use Rattle.mz_num.specs.Round.{round}
+use Rattle.mz_model.proofs.LimitLaws.{edge_term_of-is}
 use Rattle.mz_model.proofs.NeighbourLaws.{neighbours_of-in_range}
 use Rattle.mz_num.proofs.PlaceLaws.{length-list_below, list_below-more}
 use Rattle.mz_model.proofs.TouchLaws.{gain_from-touch, gain_of-touched-le, get_or-touches_of, length-touches_of}
@@ -40,6 +42,24 @@ unfolding boundary_around
 boundary_around-is parts reading zone i sum outer all terms last =
     let whole : sum ≡ sum_below (length (neighbours_of parts reading.unit)) (neighbour_term parts reading zone) = terms ∙ ap (λ n. sum_below n (neighbour_term parts reading zone)) all in
     omega arith
+
+-- a pair whose rate doesn't change has the same term
+pub neighbour_term-same : (parts : Parts) (reading : Reading) (zones : List ℕ) (old new i a b : ℕ) → zones ≡ reading.neighbours.items → a ≡ rate_at parts old (get_or zones i 0) → b ≡ rate_at parts new (get_or zones i 0) → a ≡ b → neighbour_term parts reading old i ≡ neighbour_term parts reading new i
+unfolding neighbour_term
+neighbour_term-same parts reading zones old new i a b same e f rates =
+    let len : ℕ = (get_or (neighbours_of parts reading.unit) i (0, 0)).1 in
+    let z : ℕ = get_or reading.neighbours.items i 0 in
+    let at : get_or zones i 0 ≡ z = ap (λ zs. get_or zs i 0) same in
+    let rate : rate_at parts old z ≡ rate_at parts new z = sym (e ∙ ap (rate_at parts old) at) ∙ rates ∙ f ∙ ap (rate_at parts new) at in
+    edge_term_of-is parts len old z ∙ ap (λ r. round (len * r) 1000000) rate ∙ sym (edge_term_of-is parts len new z)
+
+-- the change round a unit, from the terms that change
+pub boundary_around-change : (parts : Parts) (reading : Reading) (old new i before after old_outer new_outer : ℕ) → i ≡ length (neighbours_of parts reading.unit) → after + sum_below i (neighbour_term parts reading old) ≡ before + sum_below i (neighbour_term parts reading new)
+    → old_outer ≡ edge_term_of parts (outer_at parts reading.unit) old parts.available → new_outer ≡ edge_term_of parts (outer_at parts reading.unit) new parts.available → pos (after + new_outer) -ℤ pos (before + old_outer) ≡ pos (boundary_around parts reading new) -ℤ pos (boundary_around parts reading old)
+boundary_around-change parts reading old new i before after old_outer new_outer all change e f =
+    let was : sum_below i (neighbour_term parts reading old) + old_outer ≡ boundary_around parts reading old = boundary_around-is parts reading old i (sum_below i (neighbour_term parts reading old)) old_outer all refl e in
+    let is : sum_below i (neighbour_term parts reading new) + new_outer ≡ boundary_around parts reading new = boundary_around-is parts reading new i (sum_below i (neighbour_term parts reading new)) new_outer all refl f in
+    crosswise (boundary_around parts reading new) (boundary_around parts reading old) (after + new_outer) (before + old_outer) (omega arith)
 
 -- the penalty of touched row i, of which so much is held
 abbrev pub touched_penalty : Parts → ℕ → List ℕ → ℕ → ℕ

@@ -1,13 +1,13 @@
 //! Differences of sums.
-ghost use Rattle.std.specs.Prelude.{◌≡◌, ◌^◌, ◌≤◌, pos, ◌+ℤ◌, ◌-ℤ◌, unsigned_abs};
+ghost use Rattle.std.specs.Prelude.{◌≡◌, ◌*◌, ◌^◌, ◌≤◌, pos, ◌+ℤ◌, ◌-ℤ◌, unsigned_abs};
 
 /// By how much a sum grew.
 #[inline]
 pub(crate) fn difference(after: u128, before: u128) -> i128
-    requires after { after ≤ 10 ^ 25 }
-    requires before { before ≤ 10 ^ 25 }
+    requires after { after ≤ 3 * 10 ^ 24 }
+    requires before { before ≤ 3 * 10 ^ 24 }
     ensures value { result ≡ pos after -ℤ pos before }
-    ensures small { unsigned_abs result ≤ 10 ^ 25 }
+    ensures small { unsigned_abs result ≤ 3 * 10 ^ 24 }
 {
     after as i128 - before as i128
 }
@@ -15,10 +15,11 @@ pub(crate) fn difference(after: u128, before: u128) -> i128
 /// The sum of three differences.
 #[inline]
 pub(crate) fn sum_of(cost: i128, boundary: i128, penalty: i128) -> i128
-    requires cost { unsigned_abs cost ≤ 10 ^ 25 }
-    requires boundary { unsigned_abs boundary ≤ 10 ^ 25 }
-    requires penalty { unsigned_abs penalty ≤ 10 ^ 25 }
-    ensures { result ≡ cost +ℤ boundary +ℤ penalty }
+    requires cost { unsigned_abs cost ≤ 3 * 10 ^ 24 }
+    requires boundary { unsigned_abs boundary ≤ 3 * 10 ^ 24 }
+    requires penalty { unsigned_abs penalty ≤ 3 * 10 ^ 24 }
+    ensures sum { result ≡ cost +ℤ boundary +ℤ penalty }
+    ensures small { unsigned_abs result ≤ 10 ^ 25 }
 {
     cost + boundary + penalty
 }

@@ -12,9 +12,9 @@ mod reading;
 mod reads;
 mod rooms;
 
-pub use mz_num::Filled;
 pub use judged::Judged;
 pub use judging::{judge, judge_zone};
+pub use mz_num::Filled;
 pub use reading::Reading;
 pub use reads::{read_plan, totals_of};
 

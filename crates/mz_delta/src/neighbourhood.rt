@@ -1,5 +1,5 @@
 //! What changes round a unit where it moves: boundary terms, penalties, and what is held.
-ghost use Rattle.std.specs.Prelude.{◌≡◌, ◌<◌, ◌≤◌, ◌^◌, length, IsTrue, pos, ◌-ℤ◌, unsigned_abs};
+ghost use Rattle.std.specs.Prelude.{◌≡◌, ◌*◌, ◌<◌, ◌≤◌, ◌^◌, length, IsTrue, pos, ◌-ℤ◌, unsigned_abs};
 ghost use Rattle.mz_model.specs.Parts.{unit_count, zone_count};
 ghost use Rattle.mz_model.specs.Targets.{touched_rows};
 ghost use Rattle.mz_model.specs.Valid.{IsValid};
@@ -14,22 +14,25 @@ use mz_model::Problem;
 use mz_num::Filled;
 
 /// By how much the boundary round a reading's unit changes where the unit gets the zone: the terms
-/// of its pairs, each from this side alone, and of its outer length.
+/// of its pairs, each from this side alone, and of its outer length. Only pairs whose rate changes are
+/// looked at.
 pub(crate) fn boundary_change(problem: &Problem, reading: &Reading, zone: u8) -> i128
     requires well_formed { IsWellFormed problem.now reading.now }
     requires zone { zone < zone_count problem.now }
     ensures change { result ≡ pos (boundary_around problem.now reading.now zone) -ℤ pos (boundary_around problem.now reading.now reading.now.zone) }
-    ensures small { unsigned_abs result ≤ 10 ^ 25 }
+    ensures small { unsigned_abs result ≤ 3 * 10 ^ 24 }
 {
     let neighbours = problem.neighbours(reading.unit);
     let zones = reading.neighbours.as_slice();
     let mut before = 0;
     let mut after = 0;
     for (i, neighbour) in neighbours.iter().enumerate() {
-        let old_term = problem.edge_term(neighbour.1, reading.zone, zones[i]);
-        let new_term = problem.edge_term(neighbour.1, zone, zones[i]);
-        before += old_term as u128;
-        after += new_term as u128;
+        if problem.rate(reading.zone, zones[i]) != problem.rate(zone, zones[i]) {
+            let old_term = problem.edge_term(neighbour.1, reading.zone, zones[i]);
+            let new_term = problem.edge_term(neighbour.1, zone, zones[i]);
+            before += old_term as u128;
+            after += new_term as u128;
+        }
     }
     let outer = problem.outer(reading.unit);
     let available = problem.available();
@@ -45,7 +48,7 @@ pub(crate) fn penalty_change(problem: &Problem, unit: u32, old: &[u64], new: &[u
     requires old { length old.now ≡ length (touched_rows problem.now unit) }
     requires new { length new.now ≡ length (touched_rows problem.now unit) }
     ensures change { result ≡ pos (penalty_around problem.now unit new.now) -ℤ pos (penalty_around problem.now unit old.now) }
-    ensures small { unsigned_abs result ≤ 10 ^ 25 }
+    ensures small { unsigned_abs result ≤ 3 * 10 ^ 24 }
 {
     let touches = problem.touches(unit);
     let mut before = 0;
