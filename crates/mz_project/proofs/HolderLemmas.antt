@@ -9,12 +9,13 @@ use Rattle.std.proofs.lemmas.List.Elements.{All-nil, All-cons, All-head, All-tai
 use Rattle.std.proofs.lemmas.List.Kept.{AllPairs-cons}
 use Rattle.mz_model.specs.Amounts.{holder_of, holders_of}
 use Rattle.mz_model.proofs.AmountLaws.{AllPairs-head, AllPairs-tail, holders_of-cons, holders_of-nil}
-use Rattle.mz_num.proofs.PlaceLaws.{get_or-list_below, length-list_below, values_at-All}
+use Rattle.mz_num.proofs.PlaceLaws.{values_at-All}
 use Rattle.mz_num.specs.Order.{IsBefore}
 use Rattle.mz_targets.specs.Amounts.{IsAmount}
 use Rattle.mz_project.specs.declared.limits.amounts.AmountsByFeature.{AmountsByFeature}
 use Rattle.mz_project.specs.declared.targets.Targets.{Targets}
 use Rattle.mz_project.specs.AmountsByFeature.{amounts_by_feature}
+use Rattle.mz_project.proofs.AmountLemmas.{holders-at, in-holders}
 
 -- what holds of each amount holds of each holder
 pub holders-All : (P : ℕ × ℕ → Type 0) (rows : List (ℕ × ℕ × ℕ)) (feature : ℕ) → All (λ row. P (row.0, row.2)) rows → All P (holders_of rows feature)
@@ -59,10 +60,11 @@ places-rise holders rise k within =
 
 -- the holders of a feature, as a list of its own
 pub in_holders : (targets : Targets) (by_feature : AmountsByFeature) (feature : ℕ) → by_feature ≡ amounts_by_feature targets → feature < length targets.features.ids → feature < length by_feature.holders
-in_holders targets by_feature feature are known = subst (λ (h : AmountsByFeature). feature < length h.holders) (sym are) (subst (λ n. feature < n) (sym (length-list_below (length targets.features.ids) (holders_of targets.amounts))) known)
+in_holders targets by_feature feature are known = subst (λ n. feature < n) (sym (in-holders targets by_feature.holders (ap (λ (h : AmountsByFeature). h.holders) are))) known
 
-pub holders-are : (targets : Targets) (by_feature : AmountsByFeature) (holders : List (ℕ × ℕ)) (feature : ℕ) → by_feature ≡ amounts_by_feature targets → feature < length targets.features.ids → holders ≡ get_or by_feature.holders feature [] → holders ≡ holders_of targets.amounts feature
-holders-are targets by_feature holders feature are known is = is ∙ ap (λ (h : AmountsByFeature). get_or h.holders feature []) are ∙ get_or-list_below (length targets.features.ids) feature (holders_of targets.amounts) [] known
+pub own-holders : (targets : Targets) (by_feature : AmountsByFeature) (holders : List (ℕ × ℕ)) (feature : ℕ) → by_feature ≡ amounts_by_feature targets → feature < length targets.features.ids → holders ≡ get_or by_feature.holders feature []
+    → holders ≡ holders_of targets.amounts feature
+own-holders targets by_feature holders feature are known is = is ∙ holders-at targets by_feature.holders feature [] (ap (λ (h : AmountsByFeature). h.holders) are) known
 
 pub holders-in_range : (rows : List (ℕ × ℕ × ℕ)) (holders : List (ℕ × ℕ)) (units features most feature count : ℕ) → holders ≡ holders_of rows feature → units ≡ count → All (IsAmount units features most) rows → All (λ (unit : ℕ × ℕ). unit.0 < count) holders
 holders-in_range rows holders units features most feature count are same each =

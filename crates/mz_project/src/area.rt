@@ -196,7 +196,8 @@ fn multipliers<S: Shelf>(
 ) -> Result<Items<u64>, ReadFault>
     requires zones { length zones.now.ids ≤ most_zones }
     requires costs { length costs.now.ids ≤ most_costs }
-    ensures read { ReadAs (multipliers_read params.now zones.now available costs.now) (S.state shelf.old) (S.state shelf.new) result }
+    ensures read { ReadAs (multipliers_read params.now zones.now available costs.now)
+        (S.state shelf.old) (S.state shelf.new) result }
     ensures fit { IfOk result (AreByZone (length zones.now.ids) (length costs.now.ids)) }
 {
     let table = given_table(alloc, shelf, params, Which::ZoneCosts)?;
@@ -213,7 +214,8 @@ fn multipliers_in(
     requires zones { length zones.now ≤ most_zones }
     requires costs { length costs.now ≤ most_costs }
     requires wide { IsWide 3 table.now }
-    ensures taken { TakenAs (made_or file.ZoneCosts (ones_by_zone (length zones.now) (length costs.now) available) (multipliers_of zones.now costs.now) table.now) result }
+    ensures taken { TakenAs (made_or file.ZoneCosts (ones_by_zone (length zones.now) (length costs.now) available)
+        (multipliers_of zones.now costs.now) table.now) result }
     ensures fit { IfOk result (AreByZone (length zones.now) (length costs.now)) }
 {
     match table {

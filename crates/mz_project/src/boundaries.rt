@@ -61,7 +61,8 @@ fn bounds<S: Shelf>(
 
 fn bounds_in(alloc: Global, table: &Option<Table>, units: &Ids) -> Result<Bounds, ReadFault>
     requires { IsWide 3 table.now }
-    ensures taken { TakenAs (made_or file.Bounds (none_of_bounds (length units.now)) (bounds_of units.now) table.now) result }
+    ensures taken { TakenAs (made_or file.Bounds (none_of_bounds (length units.now)) (bounds_of units.now)
+        table.now) result }
     ensures fit { IfOk result (AreFitBounds (length units.now)) }
 {
     match table {
@@ -105,7 +106,8 @@ fn zone_bounds_in(
 ) -> Result<Items<u64>, ReadFault>
     requires zones { length zones.now ≤ most_zones }
     requires wide { IsWide 3 table.now }
-    ensures taken { TakenAs (made_or file.ZoneBounds (costs_by_default (length zones.now)) (zone_bounds_of zones.now) table.now) result }
+    ensures taken { TakenAs (made_or file.ZoneBounds (costs_by_default (length zones.now)) (zone_bounds_of zones.now)
+        table.now) result }
     ensures fit { IfOk result (AreZoneBounds (length zones.now)) }
 {
     match table {

@@ -48,7 +48,8 @@ pub(crate) fn read_table<S: Shelf>(
     which: Which,
     wants: &Wants,
 ) -> Result<Table, ReadFault>
-    ensures read { ReadAs (λ files. table_read files (file_in folder.now name.now) which wants.now) (S.state shelf.old) (S.state shelf.new) result }
+    ensures read { ReadAs (λ files. table_read files (file_in folder.now name.now) which wants.now)
+        (S.state shelf.old) (S.state shelf.new) result }
     ensures wide { IfOk result (λ table. All (λ row. length row ≡ length wants.now) table) }
 {
     let file = file_in_folder(alloc, folder, name)?;

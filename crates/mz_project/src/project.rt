@@ -25,7 +25,8 @@ pub fn read_project<S: Shelf>(
 ) -> Result<Problem, ReadFault>
     requires { IsAccepted params.now }
     ensures read { ReadAs (project_read params.now) (S.state shelf.old) (S.state shelf.new) result }
-    ensures files { IfOk result (λ _. IfTold (S.state shelf.old) (λ _. ReadEach (given_files params.now) (S.state shelf.old) (S.state shelf.new))) }
+    ensures files { IfOk result (λ _. IfTold (S.state shelf.old)
+        (λ _. ReadEach (given_files params.now) (S.state shelf.old) (S.state shelf.new))) }
 {
     let region = read_region(alloc, shelf, params)?;
     let parts = limited_parts(alloc, params, region)?;

@@ -53,7 +53,8 @@ fn zone_sets<S: Shelf>(
 fn zone_sets_in(alloc: Global, table: &Option<Table>, area: &Area) -> Result<Items<u64>, ReadFault>
     requires fit { FitsArea area.now }
     requires wide { IsWide 2 table.now }
-    ensures taken { TakenAs (made_or file.ZoneSets (every_zone (length area.now.units.ids) (length area.now.zones.ids)) (zone_sets_of area.now.units.ids area.now.zones.ids) table.now) result }
+    ensures taken { TakenAs (made_or file.ZoneSets (every_zone (length area.now.units.ids) (length area.now.zones.ids))
+        (zone_sets_of area.now.units.ids area.now.zones.ids) table.now) result }
     ensures fit { IfOk result (AreZoneSets (length area.now.units.ids) (length area.now.zones.ids)) }
 {
     match table {
@@ -102,7 +103,8 @@ fn locks_in(
     requires fit { FitsArea area.now }
     requires sets { AreZoneSets (length area.now.units.ids) (length area.now.zones.ids) sets }
     requires wide { IsWide 2 table.now }
-    ensures taken { TakenAs (made_or file.Locks sets (locked_sets_of area.now.units.ids area.now.zones.ids sets) table.now) result }
+    ensures taken { TakenAs
+        (made_or file.Locks sets (locked_sets_of area.now.units.ids area.now.zones.ids sets) table.now) result }
     ensures fit { IfOk result (AreZoneSets (length area.now.units.ids) (length area.now.zones.ids)) }
 {
     match table {

@@ -108,7 +108,8 @@ fn amounts<S: Shelf>(
     area: &Area,
     features: &FeatureList,
 ) -> Result<Items<(u32, u32, u128)>, ReadFault>
-    ensures read { ReadAs (amounts_read params.now area.now features.now) (S.state shelf.old) (S.state shelf.new) result }
+    ensures read { ReadAs (amounts_read params.now area.now features.now)
+        (S.state shelf.old) (S.state shelf.new) result }
     ensures fit { IfOk result (AreAmounts (length area.now.units.ids) (length features.now.ids)) }
 {
     let table = given_table(alloc, shelf, params, Which::Amounts)?;
@@ -143,7 +144,8 @@ fn fractions<S: Shelf>(
     features: &FeatureList,
 ) -> Result<Items<u64>, ReadFault>
     requires { length area.now.zones.ids ≤ most_zones }
-    ensures read { ReadAs (fractions_read params.now area.now features.now) (S.state shelf.old) (S.state shelf.new) result }
+    ensures read { ReadAs (fractions_read params.now area.now features.now)
+        (S.state shelf.old) (S.state shelf.new) result }
     ensures fit { IfOk result (AreByZone (length area.now.zones.ids) (length features.now.ids)) }
 {
     let table = given_table(alloc, shelf, params, Which::Contribs)?;
@@ -165,7 +167,8 @@ fn fractions_in(
 ) -> Result<Items<u64>, ReadFault>
     requires zones { length zones.now ≤ most_zones }
     requires wide { IsWide 3 table.now }
-    ensures taken { TakenAs (made_or file.Contribs (ones_by_zone (length zones.now) (length features.now) available) (fractions_of zones.now features.now) table.now) result }
+    ensures taken { TakenAs (made_or file.Contribs (ones_by_zone (length zones.now) (length features.now) available)
+        (fractions_of zones.now features.now) table.now) result }
     ensures fit { IfOk result (AreByZone (length zones.now) (length features.now)) }
 {
     match table {
@@ -186,7 +189,8 @@ fn zone_targets<S: Shelf>(
     features: &FeatureList,
 ) -> Result<Items<ZoneTarget>, ReadFault>
     requires { length area.now.zones.ids ≤ most_zones }
-    ensures read { ReadAs (zone_targets_read params.now area.now features.now) (S.state shelf.old) (S.state shelf.new) result }
+    ensures read { ReadAs (zone_targets_read params.now area.now features.now)
+        (S.state shelf.old) (S.state shelf.new) result }
     ensures fit { IfOk result (AreZoneTargets (length area.now.zones.ids) (length features.now.ids)) }
 {
     let table = given_table(alloc, shelf, params, Which::ZoneTargets)?;

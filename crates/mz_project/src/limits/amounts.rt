@@ -56,7 +56,8 @@ fn totals_of(
 ) -> Result<Vec<u128>, NoMemory>
     requires all { features ≤ length holders.now }
     requires few { All (λ list. length list ≤ most_amount_rows) holders.now }
-    ensures { IfOk result (λ totals. totals.items ≡ list_below features (λ feature. sum_by (λ holder. holder.1) (slice_index_or holders.now feature []))) }
+    ensures { IfOk result (λ totals. totals.items ≡ list_below features
+        (λ feature. sum_by (λ holder. holder.1) (slice_index_or holders.now feature []))) }
 {
     let mut totals = Vec::new(alloc);
     for feature in 0..features {

@@ -50,7 +50,8 @@ fn total(numbers: &[u64]) -> u128
 /// What the units cost in their dearest zones.
 fn greatest_cost(terms: &[u64], units: u32, zones: u8) -> u128
     requires { length terms.now ≡ units * zones }
-    ensures { result ≡ sum_below units (λ unit. greatest_below zones (λ zone. slice_index terms.now (unit * zones + zone))) }
+    ensures { result ≡ sum_below units
+        (λ unit. greatest_below zones (λ zone. slice_index terms.now (unit * zones + zone))) }
 {
     let mut total = 0u128;
     for unit in 0..units {

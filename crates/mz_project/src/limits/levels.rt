@@ -47,7 +47,8 @@ fn push_overall_levels(
     requires fit { FitsRegion region.now }
     requires totals { totals.now ≡ (amounts_by_feature region.now.targets).totals }
     requires small { totals_are_above region.now.targets ≡ false }
-    ensures { OnOk result (levels.new.items ≡ levels.old.items ++ list_below (length region.now.targets.features.ids) (level_of_feature region.now.targets)) }
+    ensures { OnOk result (levels.new.items ≡ levels.old.items ++ list_below (length region.now.targets.features.ids)
+        (level_of_feature region.now.targets)) }
 {
     let features = region.targets.features.rows.as_slice();
     for feature in 0..features.len() {
@@ -61,7 +62,8 @@ fn overall_level(feature: Feature, total: u64) -> u128
     requires target { feature.target ≤ greatest_quantity }
     requires prop { feature.prop ≤ greatest_quantity }
     requires total { total ≤ greatest_quantity }
-    ensures { result ≡ level (if nat_lt 0 feature.prop then feature.prop else feature.target) total (nat_lt 0 feature.prop) }
+    ensures { result ≡ level (if nat_lt 0 feature.prop then feature.prop else feature.target) total
+        (nat_lt 0 feature.prop) }
 {
     if feature.prop > 0 {
         level_of(feature.prop, total, true)
@@ -75,7 +77,8 @@ fn push_zone_levels(levels: &mut Vec<u128>, region: &Region, totals: &[u64]) -> 
     requires fit { FitsRegion region.now }
     requires totals { totals.now ≡ (amounts_by_feature region.now.targets).totals }
     requires small { totals_are_above region.now.targets ≡ false }
-    ensures { OnOk result (levels.new.items ≡ levels.old.items ++ map (zone_level region.now.targets) region.now.targets.zone_targets) }
+    ensures { OnOk result (levels.new.items ≡ levels.old.items ++ map (zone_level region.now.targets)
+        region.now.targets.zone_targets) }
 {
     for target in region.targets.zone_targets.as_slice() {
         let total = totals[target.feature as usize];

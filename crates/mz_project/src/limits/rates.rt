@@ -20,7 +20,8 @@ pub(crate) fn limited_rates(
     modifier: Mic6,
 ) -> Result<Items<u64>, ReadFault>
     requires { All (λ cost. cost ≤ greatest_quantity) costs.now }
-    ensures { Limited what.Rate (rates_are_above (map (rate modifier) costs.now)) (map (rate modifier) costs.now) result }
+    ensures { Limited what.Rate (rates_are_above (map (rate modifier) costs.now))
+        (map (rate modifier) costs.now) result }
 {
     let rates = rates(alloc, costs, modifier)?;
     let Some(rates) = narrowed(alloc, &rates)? else {

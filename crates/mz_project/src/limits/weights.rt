@@ -59,7 +59,8 @@ fn place_of_row(region: &Region, row: usize) -> (u32, Option<u8>)
     requires fit { FitsRegion region.now }
     requires row { row < length (levels_of region.now.targets) }
     ensures feature { result.0 < length region.now.targets.features.ids }
-    ensures row { row_for region.now result.0 result.1 (slice_index (levels_of region.now.targets) row) ≡ slice_index_or (target_rows_of region.now) row no_target }
+    ensures row { row_for region.now result.0 result.1 (slice_index (levels_of region.now.targets) row) ≡
+        slice_index_or (target_rows_of region.now) row no_target }
 {
     let features = region.targets.features.rows.len();
     if row < features {
@@ -108,10 +109,15 @@ fn bases_of(
     raw: &[u64],
     feature: u32,
 ) -> Result<Bases, NoMemory>
+    // What the files give, with costs within their limit.
     requires fit { FitsRegion region.now }
     requires costs { costs_are_above region.now.area ≡ false }
+
+    // What was worked out of it.
     requires by_feature { by_feature.now ≡ amounts_by_feature region.now.targets }
     requires raw { raw.now ≡ raw_by_unit region.now.area }
+
+    // The feature, and its bases.
     requires feature { feature < length region.now.targets.features.ids }
     ensures { IfOk result (λ bases. base_until bases ≡ bases_for region.now feature) }
 {
