@@ -1,24 +1,17 @@
--- How acts and the refusal line end.
-use Rattle.std.proofs.Common.{◌≡◌, ℕ, List, [], ◌∷◌, Result, Ok, Err, sym, subst}
+-- How the refusal line ends.
+use Rattle.std.proofs.Common.{◌≡◌, ℕ, List, Result, Ok, Err, sym, subst}
 use Rattle.std.specs.Result.{MatchResult}
 use Rattle.mz_shelf.specs.State.{State}
-use Rattle.mz_shelf.specs.Act.{Act, name_of}
 use Rattle.mz_shelf.specs.Act.Act.{Say}
 use Rattle.mz_shelf.specs.declared.shelf.ShelfErr.{ShelfErr}
 use Rattle.mz_shelf.specs.declared.shelf.ShelfErr.TheVariants.{Failed, Absent, TooLong, NoMemory}
-use Rattle.mz_shelf.specs.Shelf.{DidAct, ActFailed, ActStopped}
-use Rattle.mz_shelf.specs.Chain.{StoppedAt}
-use Rattle.mz_shelf.proofs.ChainLemmas.{StoppedAt-one}
+use Rattle.mz_shelf.specs.Shelf.{DidAct, ActStopped}
 use Rattle.mz_run.specs.declared.status.Status.{Status}
 use Rattle.mz_project.specs.declared.fault.InputFault.{InputFault}
 use Rattle.mz_run.specs.declared.status.Status.TheVariants as status
 use Rattle.mz_run.specs.Ending.{SaysLine, Refuses}
 use Rattle.mz_run.specs.Ending.SaysLine.{said, failed, unsaid}
 use Rattle.mz_run.specs.Refusal.{refusal_line}
-
--- one act failed, under a name that is the act's
-pub stopped_one : (act : Act) (name : List ℕ) {old new : State} → name ≡ name_of act → ActFailed act old new → StoppedAt (act ∷ []) name old new
-stopped_one act name {old} {new} named fails = subst (λ n. StoppedAt (act ∷ []) n old new) (sym named) (StoppedAt-one fails)
 
 -- whatever comes of the refusal's own say, the line was said, or a front of it, or nothing
 says_stopped : (line : List ℕ) {old new : State} (e : ShelfErr) → ActStopped (Say line) old new e → SaysLine line old new

@@ -10,7 +10,7 @@ use Rattle.mz_model.specs.Zones.{free_units, counts_of}
 use Rattle.mz_run.specs.declared.entry.Entry.{Entry}
 use Rattle.mz_run.specs.declared.job.Job.{Job}
 use Rattle.mz_run.specs.Cooling.{cooling_of}
-use Rattle.mz_run.specs.Job.{setting_of}
+use Rattle.mz_run.specs.Run.{setting_of}
 use Rattle.mz_run.specs.Entry.{next_entry, plan_after}
 use Rattle.mz_run.specs.Replay.{Setting, turns_of, entry_of_turn, entries_from, replay_of, plan_after_all, plan_of_history, IsLegalHistory}
 use Rattle.mz_run.specs.Start.{starting_plan}

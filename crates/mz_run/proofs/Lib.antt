@@ -1,7 +1,7 @@
 mod EndingLemmas
 mod HistoryLemmas
-mod PerformedLemmas
 mod PreparedLemmas
+mod RunLemmas
 mod StartLemmas
 mod TextLemmas
 mod WorkLemmas

@@ -1,9 +1,11 @@
 -- From the words to a job, or to why there is none.
-use Rattle.std.proofs.Common.{◌≡◌, ℕ, List, [], ◌∷◌, Option, Some, None, Result, Ok, Err, append-nil, refl, sym, subst}
+use Rattle.std.proofs.Common.{◌≡◌, ℕ, List, [], ◌∷◌, Option, Some, None, Result, Ok, Err, append-nil, refl, subst}
 use Rattle.std.specs.FinMap.{get}
+use Rattle.std.specs.Result.{MatchResult}
 use Rattle.mz_shelf.specs.State.{State, Files}
+use Rattle.mz_shelf.proofs.ChainLemmas.{DidAll-nil}
 use Rattle.mz_params.specs.declared.params.Params.{Params}
-use Rattle.mz_params.specs.ParamFile.{params_from}
+use Rattle.mz_params.specs.ParamFile.{IsAccepted, params_from}
 use Rattle.mz_model.specs.declared.parts.Parts.{Parts}
 use Rattle.mz_project.specs.declared.fault.ReadFault.{ReadFault}
 use Rattle.mz_project.specs.declared.fault.ReadFault.TheVariants as fault
@@ -16,8 +18,12 @@ use Rattle.mz_project.specs.Reads.{Outcome, Reads, bytes_of, read_behind, taken}
 use Rattle.mz_project.specs.Reads.Outcome.{Missing, Refused, Given}
 use Rattle.mz_project.proofs.ReadLemmas.{by_default, goes_on, if_both, is_taken, read_on, stops, told_along}
 use Rattle.mz_run.specs.declared.job.Job.{Job}
-use Rattle.mz_run.specs.Ending.{NotPrepared, Prepared}
-use Rattle.mz_run.specs.Job.{seed_of}
+use Rattle.mz_run.specs.declared.status.Status.{Status}
+use Rattle.mz_run.specs.declared.status.Status.TheVariants.{Words}
+use Rattle.mz_run.specs.Arguments.{Form}
+use Rattle.mz_run.specs.Arguments.Form.{File}
+use Rattle.mz_run.specs.Prepared.{IsInputStopped, IsPrepared, NotPrepared, Prepared}
+use Rattle.mz_run.specs.Run.{seed_of}
 use Rattle.mz_run.specs.Project.{InputStopped, asked_of, built_params, parts_asked, project_asked, project_of, status_of_read}
 
 -- why a reading stopped, as a status
@@ -27,27 +33,27 @@ input_stopped reads old new (fault.Absent name) h = h
 input_stopped reads old new (fault.Input f) h = h
 input_stopped reads old new fault.NoMemory h = h
 
-not_prepared : (old new : State) (form : Option (List ℕ)) (name : List ℕ) (f : ReadFault) → form ≡ Some name → IsStopped (asked_of name) old new f → NotPrepared form old new (status_of_read f)
-not_prepared old new form name f is h = subst (λ o. NotPrepared o old new (status_of_read f)) (sym is) (input_stopped (asked_of name) old new f h)
+input_fails : (old new : State) (name : List ℕ) (workers : ℕ) (f : ReadFault) → IsStopped (asked_of name) old new f → IsInputStopped (File name workers) old new (status_of_read f)
+input_fails old new name workers f h = record { started = old; start = DidAll-nil old; stopped = input_stopped (asked_of name) old new f h }
 
 -- the parameter file stopped
-pub params_stopped : (old new : State) (form : Option (List ℕ)) (name : List ℕ) (f : ReadFault) → form ≡ Some name → IsStopped (params_read name) old new f → NotPrepared form old new (status_of_read f)
+pub params_stopped : (old new : State) (name : List ℕ) (workers : ℕ) (f : ReadFault) → IsStopped (params_read name) old new f → IsInputStopped (File name workers) old new (status_of_read f)
 unfolding asked_of
-params_stopped old new form name f is h = not_prepared old new form name f is (stops (params_read name) project_asked old new f h)
+params_stopped old new name workers f h = input_fails old new name workers f (stops (params_read name) project_asked old new f h)
 
 -- a key asks for what isn't built
-pub unbuilt_stopped : (old new : State) (form : Option (List ℕ)) (name : List ℕ) (params : Params) (f : ReadFault) → form ≡ Some name → IsGiven (params_read name) old new params → TakenAs (built_params params) (Err f) → NotPrepared form old new (status_of_read f)
+pub unbuilt_stopped : (old new : State) (name : List ℕ) (workers : ℕ) (params : Params) (f : ReadFault) → IsGiven (params_read name) old new params → TakenAs (built_params params) (Err f) → IsInputStopped (File name workers) old new (status_of_read f)
 unfolding asked_of
-unbuilt_stopped old new form name params f is given taken_as =
-    not_prepared old new form name f is
+unbuilt_stopped old new name workers params f given taken_as =
+    input_fails old new name workers f
     (goes_on (params_read name) project_asked params old new new (Err f) given (stops (λ _. taken (built_params params)) parts_asked new new f (is_taken (built_params params) new (Err f) taken_as)))
 
 -- a file of the project stopped
-pub project_stopped : (old mid new : State) (form : Option (List ℕ)) (name : List ℕ) (params built : Params) (f : ReadFault) → form ≡ Some name → IsGiven (params_read name) old mid params → TakenAs (built_params params) (Ok built)
-    → IsStopped (project_read built) mid new f → NotPrepared form old new (status_of_read f)
+pub project_stopped : (old mid new : State) (name : List ℕ) (workers : ℕ) (params built : Params) (f : ReadFault) → IsGiven (params_read name) old mid params → TakenAs (built_params params) (Ok built)
+    → IsStopped (project_read built) mid new f → IsInputStopped (File name workers) old new (status_of_read f)
 unfolding asked_of
-project_stopped old mid new form name params built f is given taken_as h =
-    not_prepared old new form name f is
+project_stopped old mid new name workers params built f given taken_as h =
+    input_fails old new name workers f
     (goes_on (params_read name) project_asked params old mid new (Err f) given
     (goes_on (λ _. taken (built_params params)) parts_asked built mid mid new (Err f) (is_taken (built_params params) mid (Ok built) taken_as) (stops (project_read built) (λ parts files. taken (Ok (project_of built parts))) mid new f h)))
 
@@ -78,8 +84,26 @@ files_read name params built old mid new given rest =
     (λ files first more. one_then name (params_read name files).names (given_files built) old mid new (params_names name files) first more) given.names (told_along old mid (λ _. ReadEach (given_files built) mid new) given.read.contents rest)
 
 -- a job of a given project
-pub prepared : (form : Option (List ℕ)) (name : List ℕ) (chance : ℕ) (old mid new : State) (params : Params) (job : Job) → form ≡ Some name → IsGiven (params_read name) old mid params → TakenAs (built_params params) (Ok job.params)
-    → IsGiven (project_read job.params) mid new job.problem → IfTold mid (λ _. ReadEach (given_files job.params) mid new) → job.workers ≡ 1 → job.generated ≡ None → job.seed ≡ seed_of job.params chance → Prepared form chance old new job
-prepared form name chance old mid new params job is given taken_as whole rest workers generated seed =
-    subst (λ o. Prepared o chance old new job) (sym is)
-    (record { input = project_given old mid new name params job.params job.problem given taken_as whole; files = files_read name params job.params old mid new given rest; workers = workers; generated = generated; seed = seed })
+pub file_prepared : (name : List ℕ) (workers chance : ℕ) (old mid new : State) (params : Params) (job : Job) → IsGiven (params_read name) old mid params → TakenAs (built_params params) (Ok job.params)
+    → IsGiven (project_read job.params) mid new job.problem → IfTold mid (λ _. ReadEach (given_files job.params) mid new) → IsAccepted job.params → job.workers ≡ workers → job.generated ≡ None → job.seed ≡ seed_of job.params chance
+    → IsPrepared (File name workers) chance old new job
+file_prepared name workers chance old mid new params job given taken_as whole rest accepted own_workers generated seed = record {
+  started = old;
+  start = DidAll-nil old;
+  input = project_given old mid new name params job.params job.problem given taken_as whole;
+  files = files_read name params job.params old mid new given rest;
+  accepted = accepted;
+  workers = own_workers;
+  generated = generated;
+  seed = seed;
+}
+
+-- words without a form
+pub no_form : (words : Option Form) (old : State) → None ≡ words → NotPrepared words old old Words
+no_form words old is = subst (λ (w : Option Form). NotPrepared w old old Words) is (tt, refl)
+
+-- what came of the file is what came of the form
+pub form_prepared : (words : Option Form) (form : Form) (chance : ℕ) (old new : State) (r : Result Job Status) → Some form ≡ words → MatchResult r (λ job. IsPrepared form chance old new job) (λ status. IsInputStopped form old new status)
+    → MatchResult r (λ job. Prepared words chance old new job) (λ status. NotPrepared words old new status)
+form_prepared words form chance old new r is h =
+    subst (λ (w : Option Form). MatchResult r (λ job. Prepared w chance old new job) (λ status. NotPrepared w old new status)) is h

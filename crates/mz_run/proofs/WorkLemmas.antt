@@ -1,66 +1,89 @@
 -- The stages of the work, and the whole run of the program.
-use Rattle.std.proofs.Common.{◌≡◌, ℕ, Bool, true, false, cond, get_or, List, [], ◌∷◌, ◌++◌, Result, Ok, Err, Option, Some, None, refl, sym, ap, subst, ◌∙◌}
-use Rattle.std.specs.Prelude.{◌==◌, if◌then◌else◌, IfSome}
-use Rattle.mz_shelf.specs.State.{State, Files, KeepsCounts}
+use Rattle.std.proofs.Common.{◌≡◌, ℕ, ◌<◌, List, [], ◌∷◌, ◌++◌, length, Result, Ok, Err, Option, Some, None, sym, ap, subst, ◌∙◌, append_assoc, append-nil}
+use Rattle.std.specs.Prelude.{if◌then◌else◌, IfSome}
+use Rattle.std.proofs.lemmas.Bool.{eq-eqb}
+use Rattle.std.proofs.lemmas.Grind.{flat_map-append}
+use Rattle.mz_shelf.specs.State.{State, Files, Contents, KeepsCounts, OneFault}
 use Rattle.mz_shelf.specs.Act.{Act}
 use Rattle.mz_shelf.specs.Chain.{DidAll, StoppedBetween}
-use Rattle.mz_shelf.proofs.ChainLemmas.{KeepsCounts-refl, KeepsCounts-trans, Rose-from, Rose-to, DidAll-nil, DidAll-append, StoppedAt-rose, StoppedBetween-all, StoppedBetween-after, StoppedBetween-before}
+use Rattle.mz_shelf.specs.Performed.{Stopped, Performed}
+use Rattle.mz_shelf.specs.declared.stop.Stop.{Stop}
+use Rattle.mz_shelf.specs.declared.stop.Stop.TheVariants.{Fault, NoMemory as NoMemoryStop}
+use Rattle.mz_shelf.proofs.ChainLemmas.{DidAll-nil, DidAll-append, StoppedAt-one_fault, StoppedBetween-all, StoppedBetween-after, StoppedBetween-before}
+use Rattle.mz_shelf.proofs.CountLemmas.{KeepsCounts-same, KeepsCounts-fault, OneFault-from, Rose-once, Rose-to}
+use Rattle.mz_project.specs.ReadAs.{IfTold}
+use Rattle.mz_project.specs.Reads.{Outcome, Reads}
+use Rattle.mz_project.specs.Reads.Outcome.{Given}
 use Rattle.mz_run.specs.declared.job.Job.{Job}
 use Rattle.mz_run.specs.declared.job.Finished.{Finished}
 use Rattle.mz_run.specs.declared.status.Status.{Status}
 use Rattle.mz_run.specs.declared.status.Status.TheVariants.{Done, Words, Input, ShelfFault, Absent, NoMemory}
-use Rattle.mz_run.specs.declared.stop.Stop.{Stop}
-use Rattle.mz_run.specs.declared.stop.Stop.TheVariants.{Fault, NoMemory as NoMemoryStop}
 use Rattle.mz_run.specs.declared.trail.RunTrail.{RunTrail}
-use Rattle.mz_run.specs.Acts.{opening_acts, run_acts, closing_acts, acts_for_best, acts_of_runs, acts_of}
-use Rattle.mz_run.specs.Ending.{Prepared, Worked, SaysLine, Refuses}
+use Rattle.mz_run.specs.declared.runs.BestRun.{BestRun}
+use Rattle.mz_run.specs.Arguments.{Form, parameter_file, starting_acts}
+use Rattle.mz_run.specs.Acts.{acts_for_best, acts_of, acts_of_runs, acts_of_trails, best_acts, closing_acts, opening_acts, run_acts}
+use Rattle.mz_run.specs.Ending.{Worked, SaysLine, Refuses, status_of, status_of_stop}
 use Rattle.mz_run.specs.Ending.SaysLine.{said, failed, unsaid}
 use Rattle.mz_run.specs.Ending.Stage.{in_opening, in_run, in_closing}
-use Rattle.mz_run.specs.Finished.{RunsProgram, RunsJob, IsAnswerTo, NoneRose, IsDoneOrNoMemory}
-use Rattle.mz_run.specs.Performed.{Stopped, Performed, status_of, status_of_stop}
-use Rattle.mz_project.specs.ReadAs.{IfTold, OnlyRead}
-use Rattle.mz_project.specs.Reads.{Outcome}
-use Rattle.mz_project.specs.Reads.Outcome.{Given}
-use Rattle.mz_run.specs.Project.{Project, asked_of, project_of}
+use Rattle.mz_run.specs.Prepared.{IfStarted, IsPrepared, IsWords, NotPrepared, Prepared}
+use Rattle.mz_run.specs.Program.{IsAnswerTo, IsDoneOrNoMemory, LeavesCounts, NoneRose, RunsJob, RunsProgram, no_reports}
+use Rattle.mz_run.specs.Project.{InputStopped, Project, asked_of, project_of}
+use Rattle.mz_run.specs.Ran.{IsBestRun, RanFirst, RunsStopped, StopsIn, best_in}
+use Rattle.mz_run.specs.Ran.StopsIn.{between_runs, in_one}
 
 -- the opening stopped
-opening_fails : (job : Job) (old new : State) (stop : Stop) → Stopped (opening_acts job) old new stop → Worked job [] old new (status_of_stop stop)
-opening_fails job old new (Fault name) h = record { done = []; acts = opening_acts job; stage = in_opening; between = old; whole = DidAll-nil old; stopped = h }
-opening_fails job old new NoMemoryStop h = StoppedBetween-before _ h
+opening_fails : (job : Job) (reports : List ℕ) (old new : State) (stop : Stop) → Stopped (opening_acts job) old new stop → Worked job [] reports old new (status_of_stop stop)
+opening_fails job reports old new (Fault name) h = record { done = []; acts = opening_acts job; stage = in_opening; between = old; whole = DidAll-nil old; stopped = h }
+opening_fails job reports old new NoMemoryStop h = StoppedBetween-before _ h
 
-pub opening_stopped : (job : Job) (trails : List RunTrail) (old new : State) (stop : Stop) → trails ≡ [] → Stopped (opening_acts job) old new stop → Worked job trails old new (status_of_stop stop)
-opening_stopped job trails old new stop none h = subst (λ (ts : List RunTrail). Worked job ts old new (status_of_stop stop)) (sym none) (opening_fails job old new stop h)
+pub opening_stopped : (job : Job) (trails : List RunTrail) (reports : List ℕ) (old new : State) (stop : Stop) → trails ≡ [] → Stopped (opening_acts job) old new stop → Worked job trails reports old new (status_of_stop stop)
+opening_stopped job trails reports old new stop none h = subst (λ (ts : List RunTrail). Worked job ts reports old new (status_of_stop stop)) (sym none) (opening_fails job reports old new stop h)
 
--- memory ended the work after the opening
-pub opened_alone : (job : Job) (trails : List RunTrail) (old new : State) → trails ≡ [] → DidAll (opening_acts job) old new → StoppedBetween (acts_of job trails) old new
-opened_alone job trails old new none did = subst (λ (ts : List RunTrail). StoppedBetween (acts_of job ts) old new) (sym none) (StoppedBetween-before _ (StoppedBetween-all did))
+-- the runs stopped
+acts_of_runs-push : (job : Job) (trails : List RunTrail) (trail : RunTrail) → acts_of_runs job (trails ++ trail ∷ []) ≡ acts_of_runs job trails ++ run_acts job trail
+acts_of_runs-push job trails trail =
+    ap (λ (acts : List Act). opening_acts job ++ acts) (flat_map-append (run_acts job) trails (trail ∷ []) ∙ ap (λ (acts : List Act). acts_of_trails job trails ++ acts) (append-nil (run_acts job trail)))
+    ∙ sym (append_assoc (opening_acts job) (acts_of_trails job trails) (run_acts job trail))
 
--- the run's line stopped
-run_fails : (job : Job) (trail : RunTrail) (old between new : State) (stop : Stop) → DidAll (opening_acts job) old between → Stopped (run_acts trail) between new stop → Worked job (trail ∷ []) old new (status_of_stop stop)
-run_fails job trail old between new (Fault name) did h = record { done = opening_acts job; acts = run_acts trail; stage = in_run [] trail; between = between; whole = did; stopped = h }
-run_fails job trail old between new NoMemoryStop did h = StoppedBetween-before _ (StoppedBetween-after did h)
+run_fails : (job : Job) (earlier : List RunTrail) (trail : RunTrail) (reports : List ℕ) (old between new : State) (stop : Stop) → length earlier < job.params.reps → DidAll (acts_of_runs job earlier) old between → Stopped (run_acts job trail) between new stop
+    → Worked job (earlier ++ trail ∷ []) reports old new (status_of_stop stop)
+run_fails job earlier trail reports old between new (Fault name) few did h = record { done = acts_of_runs job earlier; acts = run_acts job trail; stage = in_run earlier trail few; between = between; whole = did; stopped = h }
+run_fails job earlier trail reports old between new NoMemoryStop few did h =
+    StoppedBetween-before _ (subst (λ (acts : List Act). StoppedBetween acts old new) (sym (acts_of_runs-push job earlier trail)) (StoppedBetween-after did h))
 
-pub run_stopped : (job : Job) (trails : List RunTrail) (trail : RunTrail) (old between new : State) (stop : Stop) → trails ≡ trail ∷ [] → DidAll (opening_acts job) old between → Stopped (run_acts trail) between new stop
-    → Worked job trails old new (status_of_stop stop)
-run_stopped job trails trail old between new stop one did h = subst (λ (ts : List RunTrail). Worked job ts old new (status_of_stop stop)) (sym one) (run_fails job trail old between new stop did h)
+runs_end : (job : Job) (trails : List RunTrail) (reports : List ℕ) (old opened new : State) (stop : Stop) → DidAll (opening_acts job) old opened → StopsIn job trails opened new stop → Worked job trails reports old new (status_of_stop stop)
+runs_end job trails reports old opened new stop first (between_runs memory did) =
+    subst (λ (s : Stop). Worked job trails reports old new (status_of_stop s)) (sym memory) (StoppedBetween-before _ (StoppedBetween-all (DidAll-append first did)))
+runs_end job trails reports old opened new stop first (in_one earlier trail between split few did h) =
+    subst (λ (ts : List RunTrail). Worked job ts reports old new (status_of_stop stop)) (sym split) (run_fails job earlier trail reports old between new stop few (DidAll-append first did) h)
+
+pub runs_stopped : (job : Job) (trails : List RunTrail) (reports : List ℕ) (old opened new : State) (stop : Stop) → DidAll (opening_acts job) old opened → RunsStopped job trails opened new stop → Worked job trails reports old new (status_of_stop stop)
+runs_stopped job trails reports old opened new stop first h = runs_end job trails reports old opened new stop first h.ends
 
 -- the closing comes after the last run
-last_acts : (job : Job) (trail : RunTrail) → 1 ≡ job.params.reps → acts_of job (trail ∷ []) ≡ acts_of_runs job (trail ∷ []) ++ closing_acts job (trail ∷ [])
-last_acts job trail last = subst (λ (n : ℕ). acts_of_runs job (trail ∷ []) ++ (if 1 == n then closing_acts job (trail ∷ []) else []) ≡ acts_of_runs job (trail ∷ []) ++ closing_acts job (trail ∷ [])) last refl
+last_acts : (job : Job) (trails : List RunTrail) (reports : List ℕ) → length trails ≡ job.params.reps → acts_of job trails reports ≡ acts_of_runs job trails ++ closing_acts job trails reports
+last_acts job trails reports whole =
+    ap (λ b. acts_of_runs job trails ++ (if b then closing_acts job trails reports else [])) (eq-eqb (length trails) job.params.reps whole)
 
-closing_ends : {X : Type 0} (job : Job) (trail : RunTrail) (old between new : State) (r : Result X Stop) → 1 ≡ job.params.reps → DidAll (acts_of_runs job (trail ∷ [])) old between → Performed (closing_acts job (trail ∷ [])) between new r
-    → Worked job (trail ∷ []) old new (status_of r)
-closing_ends job trail old between new (Ok x) last did h = record { runs = last; acts = subst (λ (acts : List Act). DidAll acts old new) (sym (last_acts job trail last)) (DidAll-append did h) }
-closing_ends job trail old between new (Err (Fault name)) last did h = record { done = acts_of_runs job (trail ∷ []); acts = closing_acts job (trail ∷ []); stage = in_closing (trail ∷ []) last; between = between; whole = did; stopped = h }
-closing_ends job trail old between new (Err NoMemoryStop) last did h = subst (λ (acts : List Act). StoppedBetween acts old new) (sym (last_acts job trail last)) (StoppedBetween-after did h)
+closing_ends : {X : Type 0} (job : Job) (trails : List RunTrail) (reports : List ℕ) (old between new : State) (r : Result X Stop) → length trails ≡ job.params.reps → DidAll (acts_of_runs job trails) old between
+    → Performed (closing_acts job trails reports) between new r → Worked job trails reports old new (status_of r)
+closing_ends job trails reports old between new (Ok x) whole did h = record { runs = whole; acts = subst (λ (acts : List Act). DidAll acts old new) (sym (last_acts job trails reports whole)) (DidAll-append did h) }
+closing_ends job trails reports old between new (Err (Fault name)) whole did h = record { done = acts_of_runs job trails; acts = closing_acts job trails reports; stage = in_closing trails whole; between = between; whole = did; stopped = h }
+closing_ends job trails reports old between new (Err NoMemoryStop) whole did h = subst (λ (acts : List Act). StoppedBetween acts old new) (sym (last_acts job trails reports whole)) (StoppedBetween-after did h)
 
-pub closing_performed : {X : Type 0} (job : Job) (trails : List RunTrail) (trail : RunTrail) (old opened between new : State) (r : Result X Stop) → trails ≡ trail ∷ [] → job.params.reps ≡ 1
-    → DidAll (opening_acts job) old opened → DidAll (run_acts trail) opened between → Performed (acts_for_best job (Some trail)) between new r → Worked job trails old new (status_of r)
-closing_performed job trails trail old opened between new r one last first second h =
-    subst (λ (ts : List RunTrail). Worked job ts old new (status_of r)) (sym one) (closing_ends job trail old between new r (sym last) (DidAll-append first second) h)
+best_closing : (job : Job) (trails : List RunTrail) (reports : List ℕ) (kept : BestRun) → IsBestRun job trails kept → closing_acts job trails reports ≡ best_acts job reports (best_in kept) kept.plan
+best_closing job trails reports kept is =
+    ap (acts_for_best job trails reports) is.best ∙ ap (best_acts job reports (best_in kept)) (sym is.plan_is)
+
+pub closed : {X : Type 0} (job : Job) (trails : List RunTrail) (reports : List ℕ) (old opened between new : State) (best : Option BestRun) (kept : BestRun) (r : Result X Stop) → DidAll (opening_acts job) old opened → best ≡ Some kept → RanFirst job job.params.reps trails opened between best
+    → Performed (best_acts job reports (best_in kept) kept.plan) between new r → Worked job trails reports old new (status_of r)
+closed job trails reports old opened between new best kept r first is found h =
+    let ran : RanFirst job job.params.reps trails opened between (Some kept) = subst (RanFirst job job.params.reps trails opened between) is found in
+    closing_ends job trails reports old between new r ran.whole (DidAll-append first ran.acts)
+    (subst (λ (acts : List Act). Performed acts between new r) (sym (best_closing job trails reports kept ran.best)) h)
 
 -- a job that was prepared and worked at is a whole run of the program
-pub runs_whole : (form : Option (List ℕ)) (chance : ℕ) (old mid new : State) (job : Job) (finished : Finished) → Prepared form chance old mid job → RunsJob job mid new finished → RunsProgram form chance old new finished
+pub runs_whole : (form : Option Form) (chance : ℕ) (old mid new : State) (job : Job) (finished : Finished) → Prepared form chance old mid job → RunsJob job mid new finished → RunsProgram form chance old new finished
 runs_whole form chance old mid new job finished prepared ran = record {
   before = ran.before;
   ends = rw ran.same_job (record {
@@ -68,58 +91,101 @@ runs_whole form chance old mid new job finished prepared ran = record {
     prepared = prepared;
     worked = ran.worked;
     runs = ran.runs;
+    few = ran.few;
   });
   refusal = ran.refusal;
 }
 
 -- the answers to an accepted project
-accepted_answer : (job : Job) (trails : List RunTrail) (old new : State) (s : Status) → Worked job trails old new s → (asked : Outcome Project) → asked ≡ Given (project_of job.params job.problem) → IsAnswerTo asked s
-accepted_answer job trails old new Done h asked e = subst (λ a. IsAnswerTo a Done) (sym e) tt
-accepted_answer job trails old new Words h asked e = absurd h
-accepted_answer job trails old new (Input fault) h asked e = absurd h
-accepted_answer job trails old new (ShelfFault name) h asked e = subst (λ a. IsAnswerTo a (ShelfFault name)) (sym e) tt
-accepted_answer job trails old new (Absent name) h asked e = absurd h
-accepted_answer job trails old new NoMemory h asked e = subst (λ a. IsAnswerTo a NoMemory) (sym e) tt
+accepted_answer : (job : Job) (trails : List RunTrail) (reports : List ℕ) (old new : State) (s : Status) → Worked job trails reports old new s → (asked : Outcome Project) → asked ≡ Given (project_of job.params job.problem) → IsAnswerTo asked s
+accepted_answer job trails reports old new Done h asked e = subst (λ a. IsAnswerTo a Done) (sym e) tt
+accepted_answer job trails reports old new Words h asked e = absurd h
+accepted_answer job trails reports old new (Input fault) h asked e = absurd h
+accepted_answer job trails reports old new (ShelfFault name) h asked e = subst (λ a. IsAnswerTo a (ShelfFault name)) (sym e) tt
+accepted_answer job trails reports old new (Absent name) h asked e = absurd h
+accepted_answer job trails reports old new NoMemory h asked e = subst (λ a. IsAnswerTo a NoMemory) (sym e) tt
 
 then_told : (o : Option Files) (P Q : Files → Type 0) → ((files : Files) → P files → Q files) → IfSome o P → IfSome o Q
 then_told None P Q more h = tt
 then_told (Some files) P Q more h = more files h
 
-pub answers_accepted : (form : Option (List ℕ)) (chance : ℕ) (old mid new : State) (job : Job) (finished : Finished) → Prepared form chance old mid job → RunsJob job mid new finished
-    → IfSome form (λ file. IfTold old (λ files. IsAnswerTo (asked_of file files).outcome finished.status))
-answers_accepted None chance old mid new job finished prepared ran = absurd prepared
-answers_accepted (Some file) chance old mid new job finished prepared ran =
-    then_told old.contents.files (λ files. (asked_of file files).outcome ≡ Given (project_of job.params job.problem)) _ (λ files e. accepted_answer job finished.trails mid ran.before finished.status ran.worked (asked_of file files).outcome e) prepared.input.given
+-- a fact of the started files is one of the files as the form starts them
+pub if_started : (form : Form) (old started : State) (P : Files → Type 0) → DidAll (starting_acts form) old started → IfTold started P → IfStarted form old P
+if_started form old started P start h = subst (λ (c : Contents). IfSome c.files P) start.contents h
 
--- the counts never fall
+pub answers_accepted : (form : Option Form) (chance : ℕ) (old mid new : State) (job : Job) (finished : Finished) → Prepared form chance old mid job → RunsJob job mid new finished
+    → IfSome form (λ f. IfStarted f old (λ files. IsAnswerTo (asked_of (parameter_file f) files).outcome finished.status))
+answers_accepted None chance old mid new job finished prepared ran = absurd prepared
+answers_accepted (Some form) chance old mid new job finished prepared ran =
+    if_started form old prepared.started (λ files. IsAnswerTo (asked_of (parameter_file form) files).outcome finished.status) prepared.start
+    (then_told prepared.started.contents.files (λ files. (asked_of (parameter_file form) files).outcome ≡ Given (project_of job.params job.problem)) _
+    (λ files e. accepted_answer job finished.trails no_reports mid ran.before finished.status ran.worked (asked_of (parameter_file form) files).outcome e) prepared.input.given)
+
+-- the counts of a prepared job's shelf are those that it had
+prepared_counts : (form : Form) (chance : ℕ) (old new : State) (job : Job) → IsPrepared form chance old new job → new.counts ≡ old.counts
+prepared_counts form chance old new job is = is.input.read.counts ∙ is.start.counts
+
+-- they never fall
 says_keeps : (line : List ℕ) (old new : State) → SaysLine line old new → KeepsCounts old.counts new.counts
-says_keeps line old new (said did) = did.counts
-says_keeps line old new (failed part) = part.counts
-says_keeps line old new (unsaid same) = subst (λ (s : State). KeepsCounts old.counts s.counts) (sym same) (KeepsCounts-refl old.counts)
+says_keeps line old new (said did) = KeepsCounts-same did.counts
+says_keeps line old new (failed part) = KeepsCounts-fault part.counts
+says_keeps line old new (unsaid same) = KeepsCounts-same (ap (λ (s : State). s.counts) same)
 
 -- a job's end without a fault that rose
-completes_job : (job : Job) (trails : List RunTrail) (old mid before new : State) (s : Status) → OnlyRead old mid → Worked job trails mid before s → Refuses s before new → NoneRose old new → IsDoneOrNoMemory s
-completes_job job trails old mid before new Done read h says none = tt
-completes_job job trails old mid before new Words read h says none = absurd h
-completes_job job trails old mid before new (Input fault) read h says none = absurd h
-completes_job job trails old mid before new (ShelfFault name) read h says none =
-    absurd (none.faults (Rose-to old.counts.faults before.counts.faults new.counts.faults
-    (Rose-from old.counts.faults h.between.counts.faults before.counts.faults (KeepsCounts-trans read.counts h.whole.counts).faults (StoppedAt-rose h.stopped))
-    (says_keeps _ before new says).faults))
-completes_job job trails old mid before new (Absent name) read h says none = absurd h
-completes_job job trails old mid before new NoMemory read h says none = tt
+completes_job : (job : Job) (trails : List RunTrail) (reports : List ℕ) (old mid before new : State) (s : Status) → mid.counts ≡ old.counts → Worked job trails reports mid before s → Refuses s before new → NoneRose old new → IsDoneOrNoMemory s
+completes_job job trails reports old mid before new Done same h says none = tt
+completes_job job trails reports old mid before new Words same h says none = absurd h
+completes_job job trails reports old mid before new (Input fault) same h says none = absurd h
+completes_job job trails reports old mid before new (ShelfFault name) same h says none =
+    let one : OneFault old.counts before.counts = OneFault-from (h.whole.counts ∙ same) (StoppedAt-one_fault h.stopped) in
+    absurd (none.faults (Rose-to old.counts.faults before.counts.faults new.counts.faults (Rose-once one.faults) (says_keeps _ before new says).faults))
+completes_job job trails reports old mid before new (Absent name) same h says none = absurd h
+completes_job job trails reports old mid before new NoMemory same h says none = tt
 
-pub completes_accepted : (A : List ℕ → Type 0) (form : Option (List ℕ)) (chance : ℕ) (old mid new : State) (job : Job) (finished : Finished) → Prepared form chance old mid job → RunsJob job mid new finished
-    → IfSome form (λ file. A file → NoneRose old new → IsDoneOrNoMemory finished.status)
+pub completes_accepted : (A : Form → Type 0) (form : Option Form) (chance : ℕ) (old mid new : State) (job : Job) (finished : Finished) → Prepared form chance old mid job → RunsJob job mid new finished
+    → IfSome form (λ f. A f → NoneRose old new → IsDoneOrNoMemory finished.status)
 completes_accepted A None chance old mid new job finished prepared ran = absurd prepared
-completes_accepted A (Some file) chance old mid new job finished prepared ran = λ _ none. completes_job job finished.trails old mid ran.before new finished.status prepared.input.read ran.worked ran.refusal none
+completes_accepted A (Some form) chance old mid new job finished prepared ran =
+    λ _ none. completes_job job finished.trails no_reports old mid ran.before new finished.status (prepared_counts form chance old mid job prepared) ran.worked ran.refusal none
 
--- what a push left where it failed, and where it didn't
-pub still_none : {X : Type 0} (before after : List X) (x : X) (ok : Bool) → before ≡ [] → ok ≡ false → after ≡ cond ok (before ++ x ∷ []) before → after ≡ []
-still_none before after x ok none refused is = is ∙ ap (λ b. cond b (before ++ x ∷ []) before) refused ∙ none
+-- which ends leave the counts
+ended_counts : (job : Job) (trails : List RunTrail) (reports : List ℕ) (old mid before new : State) (s : Status) → mid.counts ≡ old.counts → Worked job trails reports mid before s → Refuses s before new → LeavesCounts s old new
+ended_counts job trails reports old mid before new Done same h says = ap (λ (s : State). s.counts) says ∙ h.acts.counts ∙ same
+ended_counts job trails reports old mid before new Words same h says = tt
+ended_counts job trails reports old mid before new (Input fault) same h says = tt
+ended_counts job trails reports old mid before new (ShelfFault name) same h says = tt
+ended_counts job trails reports old mid before new (Absent name) same h says = tt
+ended_counts job trails reports old mid before new NoMemory same h says = ap (λ (s : State). s.counts) says ∙ h.counts ∙ same
 
-pub one_item : {X : Type 0} (before items : List X) (x first : X) (ok : Bool) → before ≡ [] → ok ≡ true → items ≡ cond ok (before ++ x ∷ []) before → first ≡ get_or items 0 first → items ≡ first ∷ []
-one_item before items x first ok none kept is at =
-    let one : items ≡ x ∷ [] = is ∙ ap (λ b. cond b (before ++ x ∷ []) before) kept ∙ ap (λ front. front ++ x ∷ []) none in
-    let same : first ≡ x = at ∙ ap (λ xs. get_or xs 0 first) one in
-    one ∙ ap (λ y. y ∷ []) (sym same)
+pub counts_accepted : (form : Option Form) (chance : ℕ) (old mid new : State) (job : Job) (finished : Finished) → Prepared form chance old mid job → RunsJob job mid new finished → LeavesCounts finished.status old new
+counts_accepted None chance old mid new job finished prepared ran = absurd prepared
+counts_accepted (Some form) chance old mid new job finished prepared ran =
+    ended_counts job finished.trails no_reports old mid ran.before new finished.status (prepared_counts form chance old mid job prepared) ran.worked ran.refusal
+
+refused_counts : (reads : Files → Reads Project) (old mid new : State) (s : Status) → InputStopped reads old mid s → Refuses s mid new → LeavesCounts s old new
+refused_counts reads old mid new Done h says = absurd h
+refused_counts reads old mid new Words h says = tt
+refused_counts reads old mid new (Input fault) h says = tt
+refused_counts reads old mid new (ShelfFault name) h says = tt
+refused_counts reads old mid new (Absent name) h says = tt
+refused_counts reads old mid new NoMemory h says = ap (λ (s : State). s.counts) says ∙ h.read.counts
+
+counts_from : (s : Status) (old started new : State) → started.counts ≡ old.counts → LeavesCounts s started new → LeavesCounts s old new
+counts_from Done old started new same h = h ∙ same
+counts_from Words old started new same h = tt
+counts_from (Input fault) old started new same h = tt
+counts_from (ShelfFault name) old started new same h = tt
+counts_from (Absent name) old started new same h = tt
+counts_from NoMemory old started new same h = h ∙ same
+
+words_counts : (s : Status) (old new : State) → IsWords s → LeavesCounts s old new
+words_counts Done old new h = absurd h
+words_counts Words old new h = tt
+words_counts (Input fault) old new h = absurd h
+words_counts (ShelfFault name) old new h = absurd h
+words_counts (Absent name) old new h = absurd h
+words_counts NoMemory old new h = absurd h
+
+pub counts_refused : (form : Option Form) (old mid new : State) (s : Status) → NotPrepared form old mid s → Refuses s mid new → LeavesCounts s old new
+counts_refused None old mid new s h says = words_counts s old new h.0
+counts_refused (Some form) old mid new s h says = counts_from s old h.started new h.start.counts (refused_counts (asked_of (parameter_file form)) h.started mid new s h.stopped says)

@@ -13,7 +13,7 @@ use Rattle.mz_project.specs.declared.fault.ReadFault.TheVariants as fault
 use Rattle.mz_project.specs.Project.{params_read, project_read}
 use Rattle.mz_project.specs.ReadAs.{IsCutShort, IsMissing, IsRefused, IsUnread}
 use Rattle.mz_project.specs.Reads.{Reads, taken, then_read}
-use Rattle.mz_run.specs.Built.{search_tests, output_tests, first_key}
+use Rattle.mz_run.specs.Supported.{search_tests, output_tests, first_key}
 use Rattle.mz_run.specs.declared.status.Status.{Status}
 use Rattle.mz_run.specs.declared.status.Status.TheVariants.{Input, ShelfFault, Absent, NoMemory}
 

@@ -1,5 +1,5 @@
 -- The line that is said of a refusal.
-use Rattle.std.specs.Prelude.{ℕ, Bool, false, nat_lt, if◌then◌else◌, List, [], ◌∷◌, ◌++◌, codes, decimal, get_or}
+use Rattle.std.specs.Prelude.{ℕ, List, [], ◌++◌, codes, decimal}
 use Rattle.mz_params.specs.declared.fault.ParamFault.{ParamFault}
 use Rattle.mz_params.specs.declared.fault.ParamFault.TheVariants as param_fault
 use Rattle.mz_params.specs.KeyName.{name_of}
@@ -12,52 +12,11 @@ use Rattle.mz_tables.specs.declared.fault.RowFault.TheVariants as row_fault
 use Rattle.mz_tables.specs.declared.fault.TableFault.{TableFault}
 use Rattle.mz_tables.specs.declared.fault.TableFault.TheVariants as table_fault
 use Rattle.mz_project.specs.declared.fault.Which.{Which}
-use Rattle.mz_project.specs.declared.fault.Which.TheVariants.{Params, Zones, Costs, Units, ZoneCosts, Features, Amounts, Contribs, ZoneTargets, ZoneSets, Locks, Bounds, ZoneBounds}
+use Rattle.mz_project.specs.InputFiles.{column_name, word_of_file}
 use Rattle.mz_project.specs.declared.fault.InputFault.{InputFault}
 use Rattle.mz_project.specs.declared.fault.InputFault.TheVariants.{TooLong, Param, Table, Row, Sum, Weight}
 use Rattle.mz_run.specs.declared.status.Status.{Status}
 use Rattle.mz_run.specs.declared.status.Status.TheVariants.{Done, Words, Input, ShelfFault, Absent, NoMemory}
-
--- the word of a file
-abbrev pub word_of_file : Which → List ℕ
-word_of_file Params = codes "input"
-word_of_file Zones = codes "zones"
-word_of_file Costs = codes "costs"
-word_of_file Units = codes "units"
-word_of_file ZoneCosts = codes "zonecost"
-word_of_file Features = codes "features"
-word_of_file Amounts = codes "amounts"
-word_of_file Contribs = codes "zonecontrib"
-word_of_file ZoneTargets = codes "zonetarget"
-word_of_file ZoneSets = codes "puzone"
-word_of_file Locks = codes "pulock"
-word_of_file Bounds = codes "bound"
-word_of_file ZoneBounds = codes "zoneboundcost"
-
--- the first names of a file's columns; those of the unit file behind the first are its costs
-abbrev pub column_names : Which → List (List ℕ)
-column_names Params = []
-column_names Zones = codes "zoneid" ∷ codes "zonename" ∷ []
-column_names Costs = codes "costid" ∷ codes "costname" ∷ []
-column_names Units = codes "id" ∷ []
-column_names ZoneCosts = codes "zoneid" ∷ codes "costid" ∷ codes "multiplier" ∷ []
-column_names Features = codes "id" ∷ codes "target" ∷ codes "prop" ∷ codes "spf" ∷ codes "name" ∷ codes "target2" ∷ codes "sepnum" ∷ codes "sepdistance" ∷ codes "targetocc" ∷ []
-column_names Amounts = codes "featureid" ∷ codes "puid" ∷ codes "amount" ∷ []
-column_names Contribs = codes "zoneid" ∷ codes "featureid" ∷ codes "fraction" ∷ []
-column_names ZoneTargets = codes "zoneid" ∷ codes "featureid" ∷ codes "target" ∷ codes "targettype" ∷ []
-column_names ZoneSets = codes "puid" ∷ codes "zoneid" ∷ []
-column_names Locks = codes "puid" ∷ codes "zoneid" ∷ []
-column_names Bounds = codes "id1" ∷ codes "id2" ∷ codes "boundary" ∷ []
-column_names ZoneBounds = codes "zoneid1" ∷ codes "zoneid2" ∷ codes "cost" ∷ []
-
--- every column of the unit file behind the first is a cost
-abbrev pub is_cost_column : Which → ℕ → Bool
-is_cost_column Units place = nat_lt 0 place
-is_cost_column which place = false
-
--- the name of the column at a place; it is empty past the last column
-abbrev pub column_name : Which → ℕ → List ℕ
-column_name which place = if is_cost_column which place then codes "cost " ++ decimal place else get_or (column_names which) place []
 
 -- why a parameter file is refused
 abbrev pub param_text : ParamFault → List ℕ

@@ -2,6 +2,7 @@
 use Rattle.std.specs.Prelude.{ℕ, ◌+◌, ◌*◌, ◌/◌, ◌^◌, Bool, if◌then◌else◌, nat_lt, List, length, slice_index}
 use Rattle.mz_model.specs.declared.parts.Parts.{Parts}
 use Rattle.mz_model.specs.Parts.{unit_count}
+use Rattle.mz_num.specs.Limits.{million}
 use Rattle.mz_num.specs.Places.{list_below, places_below}
 use Rattle.mz_model.specs.Zones.{is_allowed, is_free, allowed_zones}
 use Rattle.mz_draw.specs.Words.{word_at, pick_of}
@@ -20,7 +21,7 @@ resting_zone parts unit = if is_allowed parts unit parts.available then parts.av
 
 -- whether a word draws a share of so many millionths
 abbrev pub is_drawn : ℕ → ℕ → Bool
-is_drawn prop word = nat_lt word (prop * 2 ^ 32 / 10 ^ 6)
+is_drawn prop word = nat_lt word (prop * 2 ^ 32 / million)
 
 -- each free unit in order has two words of the start's seat: the first says whether its zone is drawn,
 -- the second which of its allowed zones it is

@@ -1,5 +1,6 @@
 //! A run of annealing, by one worker.
 ghost use Rattle.std.specs.Prelude.{◌≡◌, ◌<◌, ◌≤◌, ◌^◌, length, unwrap_or, IfOk};
+ghost use Rattle.mz_num.specs.Limits.{greatest_quantity, million, most_runs};
 ghost use Rattle.mz_model.specs.Parts.{unit_count};
 ghost use Rattle.mz_model.specs.Plans.{IsLegalPlan};
 ghost use Rattle.mz_model.specs.Scores.{score_of_plan};
@@ -7,8 +8,8 @@ ghost use Rattle.mz_model.specs.Zones.{free_units};
 ghost use Rattle.mz_run.specs.Annealed.{IsAnnealed};
 ghost use Rattle.mz_run.specs.Cooling.{cooling_of};
 ghost use Rattle.mz_run.specs.Entry.{next_entry, plan_after};
-ghost use Rattle.mz_run.specs.Job.{entries_of_run};
-ghost use Rattle.mz_run.specs.Built.{IsBuilt};
+ghost use Rattle.mz_run.specs.Run.{entries_of_run};
+ghost use Rattle.mz_run.specs.Supported.{IsSupported};
 
 use crate::entry::Entry;
 use crate::job::Job;
@@ -40,8 +41,8 @@ pub(crate) struct Annealed {
 
 /// Anneals one run, from the starting plan to its last entry.
 pub(crate) fn anneal(alloc: Global, job: &Job, run: u32) -> Result<Annealed, NoMemory>
-    requires built { IsBuilt job.now.params }
-    requires few_runs { run ≤ 1000 }
+    requires supported { IsSupported job.now.params }
+    requires few_runs { run ≤ most_runs }
     requires some_worker { 1 ≤ job.now.workers }
     ensures { IfOk result (IsAnnealed job.now run) }
 {
@@ -71,11 +72,13 @@ fn propose(
     position: u32,
     draw: Draw,
 ) -> Entry
+    // The plan with its score, and a draw for a position that the run has.
     requires legal { IsLegalPlan problem.now plan.old }
     requires own_score { score.old ≡ score_of_plan problem.now plan.old }
     requires small { score.old.total ≤ 10 ^ 25 }
     requires not_full { position < rules.now.schedule.limit }
     requires in_range { draw.unit < unit_count problem.now }
+    // The next entry, and the plan behind it with its score.
     ensures entry { result ≡ next_entry problem.now rules.now.schedule plan.old position SEAT draw }
     ensures plan { plan.new ≡ plan_after plan.old result }
     ensures stays_legal { IsLegalPlan problem.now plan.new }
@@ -108,7 +111,7 @@ fn propose(
 }
 
 fn rules_of(alloc: Global, params: &Params) -> Result<Rules, NoMemory>
-    requires { IsBuilt params.now }
+    requires { IsSupported params.now }
     ensures { IfOk result (λ rules. rules.schedule ≡ cooling_of params.now) }
 {
     let first = u128::from(given_start(params.start)) * 1000;
@@ -127,7 +130,7 @@ fn rules_of(alloc: Global, params: &Params) -> Result<Rules, NoMemory>
 /// The given start, in ten-thousandths.
 fn given_start(start: Option<Ten4>) -> u64
     ensures value { result ≡ unwrap_or start 0 }
-    ensures small { result ≤ 10 ^ 18 }
+    ensures small { result ≤ greatest_quantity }
 {
     match start {
         Some(start) => start.0,
@@ -137,7 +140,7 @@ fn given_start(start: Option<Ten4>) -> u64
 
 /// The given factor of a step, in millionths.
 fn given_factor(cool: Mic6) -> u32
-    requires { cool ≤ 1000000 }
+    requires { cool ≤ million }
     ensures { result ≡ cool }
 {
     cool.0 as u32

@@ -1,11 +1,12 @@
 //! The texts of refused input files.
-ghost use Rattle.std.specs.Prelude.{◌≡◌, ◌++◌, codes, decimal, map, IfOk, OnOk};
+ghost use Rattle.std.specs.Prelude.{◌≡◌, ◌++◌, codes, decimal, IfOk, OnOk};
 ghost use Rattle.mz_params.specs.KeyName.{name_of};
-ghost use Rattle.mz_run.specs.Refusal.{column_name, column_names as names_of_columns, input_text, is_cost_column as is_cost, number_text, param_text, row_text, table_text, word_of_file, word_of_quantity};
+ghost use Rattle.mz_project.specs.InputFiles.{column_name, word_of_file};
+ghost use Rattle.mz_run.specs.Refusal.{input_text, number_text, param_text, row_text, table_text, word_of_quantity};
 
 use mz_num::{NoMemory, NumFault, push_bytes, push_number};
 use mz_params::{Key, ParamFault, key_name};
-use mz_project::{InputFault, What, Which};
+use mz_project::{InputFault, What, Which, file_word, push_column_name};
 use mz_tables::{RowFault, TableFault};
 use std::alloc::Global;
 
@@ -14,7 +15,7 @@ pub(crate) fn input_fault_text(alloc: Global, fault: InputFault) -> Result<Vec<u
     ensures { IfOk result (λ text. text.items ≡ input_text fault) }
 {
     match fault {
-        InputFault::TooLong(which) => joined(alloc, word_of(which), ": too long"),
+        InputFault::TooLong(which) => joined(alloc, file_word(which), ": too long"),
         InputFault::Param(fault) => param_fault_text(alloc, fault),
         InputFault::Table(which, fault) => table_fault_text(alloc, which, fault),
         InputFault::Row(which, fault) => row_fault_text(alloc, which, fault),
@@ -30,27 +31,6 @@ pub(crate) fn joined(alloc: Global, front: &str, end: &str) -> Result<Vec<u8>, N
     let mut text = Vec::from_slice(alloc, front.as_bytes())?;
     text.extend_from_slice(end.as_bytes())?;
     Ok(text)
-}
-
-/// The word by which a message names an input file.
-fn word_of(which: Which) -> &'static str
-    ensures { result.now ≡ word_of_file which }
-{
-    match which {
-        Which::Params => "input",
-        Which::Zones => "zones",
-        Which::Costs => "costs",
-        Which::Units => "units",
-        Which::ZoneCosts => "zonecost",
-        Which::Features => "features",
-        Which::Amounts => "amounts",
-        Which::Contribs => "zonecontrib",
-        Which::ZoneTargets => "zonetarget",
-        Which::ZoneSets => "puzone",
-        Which::Locks => "pulock",
-        Which::Bounds => "bound",
-        Which::ZoneBounds => "zoneboundcost",
-    }
 }
 
 fn param_fault_text(alloc: Global, fault: ParamFault) -> Result<Vec<u8>, NoMemory>
@@ -79,7 +59,7 @@ fn push_key(text: &mut Vec<u8>, key: Key, wrong: &str) -> Result<(), NoMemory>
 fn table_fault_text(alloc: Global, which: Which, fault: TableFault) -> Result<Vec<u8>, NoMemory>
     ensures { IfOk result (λ text. text.items ≡ word_of_file which ++ codes ": " ++ table_text which fault) }
 {
-    let mut text = joined(alloc, word_of(which), ": ")?;
+    let mut text = joined(alloc, file_word(which), ": ")?;
     push_table_fault(&mut text, which, fault)?;
     Ok(text)
 }
@@ -91,7 +71,7 @@ fn push_table_fault(text: &mut Vec<u8>, which: Which, fault: TableFault) -> Resu
         TableFault::NoHeader => push_bytes(text, b"no header"),
         TableFault::ColumnMissing(place) => {
             push_bytes(text, b"column ")?;
-            push_column(text, which, place)?;
+            push_column_name(text, which, place)?;
             push_bytes(text, b" missing")
         }
         TableFault::Uneven(line) => {
@@ -106,7 +86,7 @@ fn push_table_fault(text: &mut Vec<u8>, which: Which, fault: TableFault) -> Resu
 fn row_fault_text(alloc: Global, which: Which, fault: RowFault) -> Result<Vec<u8>, NoMemory>
     ensures { IfOk result (λ text. text.items ≡ word_of_file which ++ codes ": line " ++ row_text which fault) }
 {
-    let mut text = joined(alloc, word_of(which), ": line ")?;
+    let mut text = joined(alloc, file_word(which), ": line ")?;
     push_row_fault(&mut text, which, fault)?;
     Ok(text)
 }
@@ -119,11 +99,11 @@ fn push_row_fault(text: &mut Vec<u8>, which: Which, fault: RowFault) -> Result<(
         RowFault::BadNumber(line, place, fault) => push_bad_number(text, which, line, place, fault),
         RowFault::LeftOut(line, place) => {
             push_at_line(text, line, " left out ")?;
-            push_column(text, which, place)
+            push_column_name(text, which, place)
         }
         RowFault::Unknown(line, place) => {
             push_at_line(text, line, " unknown ")?;
-            push_column(text, which, place)
+            push_column_name(text, which, place)
         }
         RowFault::Repeated(line) => push_at_line(text, line, " repeated"),
         RowFault::LockConflict(line, id) => push_conflict(text, line, id),
@@ -146,16 +126,18 @@ fn push_bad_number(
     place: u16,
     fault: NumFault,
 ) -> Result<(), NoMemory>
-    ensures { OnOk result (text.new.items ≡ text.old.items ++ decimal line ++ codes " bad number in " ++ column_name which place ++ codes ": " ++ number_text fault) }
+    ensures { OnOk result (text.new.items
+        ≡ text.old.items ++ decimal line ++ codes " bad number in " ++ column_name which place ++ codes ": " ++ number_text fault) }
 {
     push_at_line(text, line, " bad number in ")?;
-    push_column(text, which, place)?;
+    push_column_name(text, which, place)?;
     push_bytes(text, b": ")?;
     push_bytes(text, why_no_number(fault).as_bytes())
 }
 
 fn push_conflict(text: &mut Vec<u8>, line: u32, id: u32) -> Result<(), NoMemory>
-    ensures { OnOk result (text.new.items ≡ text.old.items ++ decimal line ++ codes " unit " ++ decimal id ++ codes " is locked outside its zones") }
+    ensures { OnOk result (text.new.items
+        ≡ text.old.items ++ decimal line ++ codes " unit " ++ decimal id ++ codes " is locked outside its zones") }
 {
     push_at_line(text, line, " unit ")?;
     push_at_line(text, id, " is locked outside its zones")
@@ -192,58 +174,4 @@ fn weight_text(alloc: Global, id: u32) -> Result<Vec<u8>, NoMemory>
     let mut text = Vec::from_slice(alloc, b"limit: weight of feature ")?;
     push_number(&mut text, u64::from(id))?;
     Ok(text)
-}
-
-/// Appends the name of the column at a place: the first name of a fixed column, `cost` and the place of a cost.
-fn push_column(text: &mut Vec<u8>, which: Which, place: u16) -> Result<(), NoMemory>
-    ensures { OnOk result (text.new.items ≡ text.old.items ++ column_name which place) }
-{
-    if is_cost_column(which, place) {
-        push_bytes(text, b"cost ")?;
-        return push_number(text, u64::from(place));
-    }
-    match column_names(which).get(place as usize) {
-        Some(name) => push_bytes(text, name.as_bytes()),
-        None => Ok(()),
-    }
-}
-
-fn is_cost_column(which: Which, place: u16) -> bool
-    ensures { result ≡ is_cost which place }
-{
-    match which {
-        Which::Units => place > 0,
-        _ => false,
-    }
-}
-
-/// The first names of a file's columns; those of the unit file behind the first are its costs.
-fn column_names(which: Which) -> &'static [&'static str]
-    ensures { map (λ name. name.now) result.now ≡ names_of_columns which }
-{
-    match which {
-        Which::Params => &[],
-        Which::Zones => &["zoneid", "zonename"],
-        Which::Costs => &["costid", "costname"],
-        Which::Units => &["id"],
-        Which::ZoneCosts => &["zoneid", "costid", "multiplier"],
-        Which::Features => &[
-            "id",
-            "target",
-            "prop",
-            "spf",
-            "name",
-            "target2",
-            "sepnum",
-            "sepdistance",
-            "targetocc",
-        ],
-        Which::Amounts => &["featureid", "puid", "amount"],
-        Which::Contribs => &["zoneid", "featureid", "fraction"],
-        Which::ZoneTargets => &["zoneid", "featureid", "target", "targettype"],
-        Which::ZoneSets => &["puid", "zoneid"],
-        Which::Locks => &["puid", "zoneid"],
-        Which::Bounds => &["id1", "id2", "boundary"],
-        Which::ZoneBounds => &["zoneid1", "zoneid2", "cost"],
-    }
 }

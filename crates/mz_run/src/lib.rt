@@ -2,23 +2,24 @@
 #![tactic(auto)]
 
 mod anneal;
-mod built;
+mod arguments;
+mod closing;
 mod entry;
 mod input_text;
 mod job;
 mod lines;
+mod opening;
 mod output;
 mod preparation;
 mod program;
 mod refusal;
+mod run_outputs;
+mod runs;
 mod solution;
 mod start;
 mod status;
-mod stop;
-#[cfg(test)]
-mod tests;
+mod supported;
 mod trail;
-mod words;
 
 pub use entry::Entry;
 pub use job::{Finished, Job};

@@ -1,22 +1,23 @@
 //! From the words to a job.
 ghost use Rattle.std.specs.Prelude.{MatchResult, IfOk};
-ghost use Rattle.mz_run.specs.Ending.{Prepared, NotPrepared};
 ghost use Rattle.mz_params.specs.ParamFile.{IsAccepted};
 ghost use Rattle.mz_project.specs.ReadAs.{TakenAs};
-ghost use Rattle.mz_run.specs.Built.{IsBuilt};
+ghost use Rattle.mz_run.specs.Arguments.{form_of};
+ghost use Rattle.mz_run.specs.Arguments.Form.{File};
+ghost use Rattle.mz_run.specs.Prepared.{IsInputStopped, IsPrepared, NotPrepared, Prepared};
 ghost use Rattle.mz_run.specs.Project.{built_params};
-ghost use Rattle.mz_run.specs.Words.{file_of};
+ghost use Rattle.mz_run.specs.Supported.{IsSupported};
 
-use crate::built::unbuilt_key;
+use crate::arguments::{Form, read_words};
 use crate::job::Job;
 use crate::status::Status;
-use crate::words::named_file;
+use crate::supported::unbuilt_key;
 use mz_params::{ParamFault, Params};
 use mz_project::{InputFault, ReadFault, read_params, read_project};
 use mz_shelf::Shelf;
 use std::alloc::Global;
 
-/// Reads the words, and the project that they name. Nothing is written or said; a refusal is never `Done`.
+/// Reads the words, and the project that they ask for. Nothing is written or said; a refusal is never `Done`.
 /// The random seed is RANDSEED, or `chance` where that is negative or not given.
 pub fn prepare<S: Shelf>(
     alloc: Global,
@@ -25,20 +26,38 @@ pub fn prepare<S: Shelf>(
     shelf: &mut S,
 ) -> Result<Job, Status>
     ensures ends { MatchResult result
-        (λ job. Prepared (file_of words.now) chance (S.state shelf.old) (S.state shelf.new) job)
-        (λ status. NotPrepared (file_of words.now) (S.state shelf.old) (S.state shelf.new) status) }
-    ensures built { IfOk result (λ job. IsBuilt job.params) }
+        (λ job. Prepared (form_of words.now) chance (S.state shelf.old) (S.state shelf.new) job)
+        (λ status. NotPrepared (form_of words.now) (S.state shelf.old) (S.state shelf.new) status) }
+    ensures accepted { IfOk result (λ job. IsAccepted job.params) }
+    ensures supported { IfOk result (λ job. IsSupported job.params) }
 {
-    let Some(file) = named_file(words) else {
-        return Err(Status::Words);
-    };
-    let params = built(read_params(alloc, shelf, file)?)?;
+    match read_words(words) {
+        Form::Unknown => Err(Status::Words),
+        Form::File(file, workers) => prepare_file(alloc, shelf, file, workers, chance),
+    }
+}
+
+/// Reads a project in files of its own.
+fn prepare_file<S: Shelf>(
+    alloc: Global,
+    shelf: &mut S,
+    file: &str,
+    workers: u8,
+    chance: u64,
+) -> Result<Job, Status>
+    ensures ends { MatchResult result
+        (λ job. IsPrepared (File file.now workers) chance (S.state shelf.old) (S.state shelf.new) job)
+        (λ status. IsInputStopped (File file.now workers) (S.state shelf.old) (S.state shelf.new) status) }
+    ensures accepted { IfOk result (λ job. IsAccepted job.params) }
+    ensures supported { IfOk result (λ job. IsSupported job.params) }
+{
+    let params = supported(read_params(alloc, shelf, file)?)?;
     let problem = read_project(alloc, shelf, &params)?;
     let seed = params.seed.map_or(chance, u64::from);
     Ok(Job {
         problem,
         params,
-        workers: 1,
+        workers,
         seed,
         generated: None,
     })
@@ -46,11 +65,11 @@ pub fn prepare<S: Shelf>(
 
 /// The parameters, unless one of them asks for what the program doesn't do yet.
 #[tactic(auto, unfolding(crate::specs::Project::built_params))]
-fn built(params: Params) -> Result<Params, ReadFault>
+fn supported(params: Params) -> Result<Params, ReadFault>
     requires { IsAccepted params }
     ensures taken { TakenAs (built_params params) result }
     ensures accepted { IfOk result IsAccepted }
-    ensures built { IfOk result IsBuilt }
+    ensures supported { IfOk result IsSupported }
 {
     match unbuilt_key(&params) {
         Some(key) => Err(ReadFault::Input(InputFault::Param(ParamFault::LeftOut(key)))),

@@ -10,7 +10,7 @@ ghost use Rattle.mz_model.specs.Valid.{IsValid};
 ghost use Rattle.mz_run.specs.Solution.{amount_line, score_lines, solution_text, unit_line};
 
 use mz_model::{Plan, Problem, Score, held, short};
-use mz_num::{NoMemory, write_ten4, push_bytes, push_number};
+use mz_num::{NoMemory, push_bytes, push_number, write_ten4};
 use std::alloc::Global;
 
 /// The zone of each unit, and what the plan scores and misses.
@@ -33,7 +33,8 @@ pub(crate) fn solution(
 
 fn push_units(text: &mut Vec<u8>, problem: &Problem, plan: &Plan) -> Result<(), NoMemory>
     requires { IsLegalPlan problem.now plan.now }
-    ensures { OnOk result (text.new.items ≡ text.old.items ++ concat (list_below (unit_count problem.now) (unit_line problem.now plan.now))) }
+    ensures { OnOk result (text.new.items
+        ≡ text.old.items ++ concat (list_below (unit_count problem.now) (unit_line problem.now plan.now))) }
 {
     for unit in 0..problem.units() {
         push_unit(text, problem, plan, unit)?;

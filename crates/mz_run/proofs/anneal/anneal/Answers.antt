@@ -1,6 +1,6 @@
 use Rattle.std.proofs.lemmas.Grind.{common_steps}
 use Rattle.std.proofs.Common.{arith, rules, sym, ap, ◌∙◌}
-use Rattle.mz_run.specs.Job.{setting_of}
+use Rattle.mz_run.specs.Run.{setting_of}
 use Rattle.mz_run.specs.Replay.{entries_from}
 use Rattle.mz_run.specs.Start.{starting_plan}
 use Rattle.mz_run.proofs.HistoryLemmas.{plan_step, draw_is, drawer_next, replay_of-legal}
@@ -9,7 +9,7 @@ use Rattle.mz_run.proofs.anneal.anneal.Goals as goal
 pub loop-position-init : goal.loop-position-init
 unfolding entries_from
 loop-position-init c = record {
-  plan = c.in_ok-plan.ensures.plan c.args.job.now.seed c.args.run ∙ ap (λ prop. starting_plan c.args.job.now.problem prop c.args.job.now.seed c.args.run) (sym c.requires.built.prop);
+  plan = c.in_ok-plan.ensures.plan c.args.job.now.seed c.args.run ∙ ap (λ prop. starting_plan c.args.job.now.problem prop c.args.job.now.seed c.args.run) (sym c.requires.supported.prop);
   legal = c.in_ok-plan.ensures.legal;
   score = c.evaluate-score.ensures.score;
   small = c.evaluate-score.ensures.small;

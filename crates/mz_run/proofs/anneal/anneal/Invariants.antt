@@ -1,7 +1,7 @@
 use Rattle.std.proofs.Common.{◌≡◌, ◌*◌, ◌≤◌, ◌^◌, replicate}
 use Rattle.mz_model.specs.Plans.{IsLegalPlan}
 use Rattle.mz_model.specs.Scores.{score_of_plan}
-use Rattle.mz_run.specs.Job.{setting_of}
+use Rattle.mz_run.specs.Run.{setting_of}
 use Rattle.mz_run.specs.Replay.{plan_of_history, replay_of}
 use Rattle.mz_run.proofs.anneal.anneal.Given as goal
 

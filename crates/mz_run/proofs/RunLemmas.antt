@@ -1,0 +1,222 @@
+-- Runs one after another, and the best of them.
+use Rattle.std.proofs.Common.{◌≡◌, ℕ, suc, ◌+◌, ◌-◌, ◌<◌, ◌≤◌, Bool, true, false, cond, get_or, List, [], ◌∷◌, ◌++◌, length, map, Option, Some, None, refl, sym, ap, subst, ◌∙◌, arith, length-append, append-nil}
+use Rattle.std.specs.Prelude.{nat_lt, if◌then◌else◌}
+use Rattle.std.proofs.Math.Nat.{add-zero}
+use Rattle.std.proofs.Math.Seq.{get_or-append_seam}
+use Rattle.std.proofs.lemmas.List.{get_or_append_left, map-append}
+use Rattle.std.proofs.lemmas.Grind.{flat_map-append}
+use Rattle.std.specs.List.{All}
+use Rattle.mz_shelf.specs.State.{State}
+use Rattle.mz_shelf.specs.Act.{Act}
+use Rattle.mz_shelf.specs.Chain.{DidAll}
+use Rattle.mz_shelf.specs.Performed.{Stopped}
+use Rattle.mz_shelf.specs.declared.stop.Stop.{Stop}
+use Rattle.mz_shelf.proofs.ChainLemmas.{DidAll-nil, DidAll-append}
+use Rattle.mz_model.specs.declared.score.Score.{Score}
+use Rattle.mz_model.specs.Plans.{IsLegalPlan}
+use Rattle.mz_model.specs.Scores.{score_of_plan}
+use Rattle.mz_run.specs.declared.anneal.Annealed.{Annealed}
+use Rattle.mz_run.specs.declared.job.Job.{Job}
+use Rattle.mz_run.specs.declared.trail.RunTrail.{RunTrail}
+use Rattle.mz_run.specs.declared.runs.BestRun.{BestRun}
+use Rattle.mz_run.specs.Annealed.{IsAnnealed}
+use Rattle.mz_run.specs.Acts.{acts_of_trails, plan_of_run, run_acts, scores_of}
+use Rattle.mz_run.specs.Best.{Best, better, best_from, best_of}
+use Rattle.mz_run.specs.Ran.{IsBestRun, KeepsBest, RanFirst, RanOnce, RunStopped, RunsStopped, best_in, better_run}
+use Rattle.mz_run.specs.Ran.RunStopped.{no_trail, in_acts}
+use Rattle.mz_run.specs.Ran.StopsIn.{between_runs, in_one}
+use Rattle.mz_run.specs.Replay.{IsLegalHistory, replay_of}
+use Rattle.mz_run.specs.Run.{annealed_plan, final_plan, setting_of}
+use Rattle.mz_run.specs.Trail.{AreTrailsFrom, IsTrail}
+
+-- one trail more
+
+AreTrailsFrom-push : (job : Job) (run : ℕ) (trails : List RunTrail) (trail : RunTrail) → AreTrailsFrom job run trails → IsTrail job (run + length trails) trail → AreTrailsFrom job run (trails ++ trail ∷ [])
+AreTrailsFrom-push job run [] trail all one = (subst (λ n. IsTrail job n trail) (add-zero run) one, tt)
+AreTrailsFrom-push job run (first ∷ trails) trail all one =
+    let next : run + suc (length trails) ≡ run + 1 + length trails = omega arith in
+    (all.0, AreTrailsFrom-push job (run + 1) trails trail all.1 (subst (λ n. IsTrail job n trail) next one))
+
+acts_of_trails-push : (job : Job) (trails : List RunTrail) (trail : RunTrail) → acts_of_trails job (trails ++ trail ∷ []) ≡ acts_of_trails job trails ++ run_acts job trail
+acts_of_trails-push job trails trail =
+    flat_map-append (run_acts job) trails (trail ∷ []) ∙ ap (λ (acts : List Act). acts_of_trails job trails ++ acts) (append-nil (run_acts job trail))
+
+length-push : (trails : List RunTrail) (trail : RunTrail) (n : ℕ) → length trails ≡ n → length (trails ++ trail ∷ []) ≡ n + 1
+length-push trails trail n whole = length-append trails (trail ∷ []) ∙ ap (λ k. k + 1) whole
+
+-- the best of scores with one more
+
+best_from-push : (best : Option Best) (run : ℕ) (scores : List Score) (score : Score) → best_from best run (scores ++ score ∷ []) ≡ Some (better (best_from best run scores) (run + length scores) score)
+best_from-push best run [] score = ap (λ n. Some (better best n score)) (sym (add-zero run))
+best_from-push best run (first ∷ scores) score =
+    let next : run + 1 + length scores ≡ run + suc (length scores) = omega arith in
+    best_from-push (Some (better best run first)) (run + 1) scores score ∙ ap (λ n. Some (better (best_from (Some (better best run first)) (run + 1) scores) n score)) next
+
+length-scores : (trails : List RunTrail) → length (scores_of trails) ≡ length trails
+length-scores [] = refl
+length-scores (trail ∷ trails) = ap suc (length-scores trails)
+
+best_of-push : (trails : List RunTrail) (trail : RunTrail) (kept : Option Best) (run : ℕ) → best_of (scores_of trails) ≡ kept → run ≡ 1 + length trails
+    → best_of (scores_of (trails ++ trail ∷ [])) ≡ Some (better kept run trail.score)
+best_of-push trails trail kept run so_far next =
+    ap best_of (map-append (λ (t : RunTrail). t.score) trails (trail ∷ []))
+    ∙ best_from-push None 1 (scores_of trails) trail.score
+    ∙ ap (λ (b : Option Best). Some (better b (1 + length (scores_of trails)) trail.score)) so_far
+    ∙ ap (λ n. Some (better kept n trail.score)) (ap (λ n. 1 + n) (length-scores trails) ∙ sym next)
+
+-- the plans of the runs
+
+abbrev turns_in : List RunTrail → List (List ℕ)
+turns_in trails = map (λ (trail : RunTrail). trail.turns) trails
+
+length-turns : (trails : List RunTrail) → length (turns_in trails) ≡ length trails
+length-turns [] = refl
+length-turns (trail ∷ trails) = ap suc (length-turns trails)
+
+-- an earlier run's plan stays
+plan_of_run-earlier : (job : Job) (trails : List RunTrail) (trail : RunTrail) (run : ℕ) → 1 ≤ run → run ≤ length trails → plan_of_run job (trails ++ trail ∷ []) run ≡ plan_of_run job trails run
+plan_of_run-earlier job trails trail run from_one within =
+    ap (final_plan job run)
+    (ap (λ (all : List (List ℕ)). get_or all (run - 1) []) (map-append (λ (t : RunTrail). t.turns) trails (trail ∷ []))
+    ∙ get_or_append_left (turns_in trails) (turns_in (trail ∷ [])) [] (run - 1) (omega (arith, length-turns trails)))
+
+-- and the last run has its own
+plan_of_run-last : (job : Job) (trails : List RunTrail) (trail : RunTrail) (run : ℕ) → run ≡ 1 + length trails → plan_of_run job (trails ++ trail ∷ []) run ≡ final_plan job run trail.turns
+plan_of_run-last job trails trail run next =
+    let place : run - 1 ≡ length (turns_in trails) = omega (arith, length-turns trails) in
+    ap (final_plan job run)
+    (ap (λ (all : List (List ℕ)). get_or all (run - 1) []) (map-append (λ (t : RunTrail). t.turns) trails (trail ∷ []))
+    ∙ ap (λ n. get_or (turns_in trails ++ trail.turns ∷ []) n []) place
+    ∙ get_or-append_seam (turns_in trails) trail.turns [] [])
+
+-- which run is kept
+
+record IsNext (job : Job) (trails : List RunTrail) (trail : RunTrail) (last : BestRun) : Type 0 where
+  run_is : last.run ≡ 1 + length trails
+  trail_is : IsTrail job (1 + length trails) trail
+  score_is : last.score ≡ trail.score
+  plan_is : last.plan ≡ final_plan job (1 + length trails) trail.turns
+
+last_kept : (job : Job) (trails : List RunTrail) (trail : RunTrail) (last : BestRun) → IsNext job trails trail last → best_of (scores_of (trails ++ trail ∷ [])) ≡ Some (best_in last) → IsBestRun job (trails ++ trail ∷ []) last
+last_kept job trails trail last next best =
+    let own : final_plan job (1 + length trails) trail.turns ≡ last.plan = sym next.plan_is in
+    record {
+      best = best;
+      from_one = omega (arith, next.run_is);
+      within = omega (arith, next.run_is, length-push trails trail (length trails) refl);
+      plan_is = next.plan_is ∙ ap (λ n. final_plan job n trail.turns) (sym next.run_is) ∙ sym (plan_of_run-last job trails trail last.run next.run_is);
+      legal = subst (IsLegalPlan job.problem) own next.trail_is.legal;
+      score_is = next.score_is ∙ next.trail_is.score ∙ ap (score_of_plan job.problem) own;
+    }
+
+earlier_kept : (job : Job) (trails : List RunTrail) (trail : RunTrail) (kept : BestRun) → IsBestRun job trails kept → best_of (scores_of (trails ++ trail ∷ [])) ≡ Some (best_in kept) → IsBestRun job (trails ++ trail ∷ []) kept
+earlier_kept job trails trail kept is best = record {
+  best = best;
+  from_one = is.from_one;
+  within = omega (arith, is.within, length-push trails trail (length trails) refl);
+  plan_is = is.plan_is ∙ sym (plan_of_run-earlier job trails trail kept.run is.from_one is.within);
+  legal = is.legal;
+  score_is = is.score_is;
+}
+
+either : (job : Job) (trails : List RunTrail) (trail : RunTrail) (kept last : BestRun) (lower : Bool) → nat_lt last.score.total kept.score.total ≡ lower → IsBestRun job trails kept → IsNext job trails trail last
+    → best_of (scores_of (trails ++ trail ∷ [])) ≡ Some (if lower then best_in last else best_in kept) → IsBestRun job (trails ++ trail ∷ []) (if lower then last else kept)
+either job trails trail kept last true test is next best = last_kept job trails trail last next best
+either job trails trail kept last false test is next best = earlier_kept job trails trail kept is best
+
+best_more : (job : Job) (trails : List RunTrail) (trail : RunTrail) (kept : Option BestRun) (last : BestRun) → KeepsBest job trails kept → IsNext job trails trail last → IsBestRun job (trails ++ trail ∷ []) (better_run kept last)
+best_more job trails trail None last keeps next =
+    last_kept job trails trail last next
+    (best_of-push trails trail None last.run keeps next.run_is ∙ ap (λ (score : Score). let b : Best = record { run = last.run; score = score } in Some b) (sym next.score_is))
+best_more job trails trail (Some kept) last keeps next =
+    let lower = nat_lt last.score.total kept.score.total in
+    either job trails trail kept last lower refl keeps next
+    (best_of-push trails trail (Some (best_in kept)) last.run keeps.best next.run_is
+    ∙ ap (λ (score : Score). Some (better (Some (best_in kept)) last.run score)) (sym next.score_is))
+
+-- no run yet
+pub ran_none : (job : Job) (trails : List RunTrail) (state : State) → trails ≡ [] → RanFirst job 0 trails state state None
+ran_none job trails state none = subst (λ (ts : List RunTrail). RanFirst job 0 ts state state None) (sym none) (record {
+  runs = tt;
+  whole = refl;
+  acts = DidAll-nil state;
+  best = refl;
+})
+
+-- one run more
+ran_one : (job : Job) (before : List RunTrail) (trail : RunTrail) (old mid new : State) (kept : Option BestRun) (last : BestRun) → RanFirst job (length before) before old mid kept → IsNext job before trail last → DidAll (run_acts job trail) mid new
+    → RanFirst job (length before + 1) (before ++ trail ∷ []) old new (Some (better_run kept last))
+ran_one job before trail old mid new kept last ran next did = record {
+  runs = AreTrailsFrom-push job 1 before trail ran.runs next.trail_is;
+  whole = length-push before trail (length before) refl;
+  acts = subst (λ (acts : List Act). DidAll acts old new) (sym (acts_of_trails-push job before trail)) (DidAll-append ran.acts did);
+  best = best_more job before trail kept last ran.best next;
+}
+
+pub ran_more : (job : Job) (count : ℕ) (before after : List RunTrail) (old mid new : State) (kept : Option BestRun) (last : BestRun) → RanFirst job count before old mid kept → RanOnce job (count + 1) before after mid new last
+    → RanFirst job (count + 1) after old new (Some (better_run kept last))
+ran_more job count before after old mid new kept last ran once =
+    let next : count + 1 ≡ 1 + length before = omega (arith, ran.whole) in
+    let more : RanFirst job (length before + 1) (before ++ once.trail ∷ []) old new (Some (better_run kept last)) =
+    ran_one job before once.trail old mid new kept last (subst (λ n. RanFirst job n before old mid kept) (sym ran.whole) ran)
+    (record {
+      run_is = once.run_is ∙ next;
+      trail_is = subst (λ n. IsTrail job n once.trail) next once.is_trail;
+      score_is = once.score_is;
+      plan_is = once.plan_is ∙ ap (λ n. final_plan job n once.trail.turns) next;
+    }) once.acts in
+    subst (λ (ts : List RunTrail). RanFirst job (count + 1) ts old new (Some (better_run kept last))) (sym once.kept)
+    (subst (λ n. RanFirst job (n + 1) (before ++ once.trail ∷ []) old new (Some (better_run kept last))) ran.whole more)
+
+-- a run stopped
+pub runs_stop : (job : Job) (count : ℕ) (before after : List RunTrail) (old mid new : State) (kept : Option BestRun) (stop : Stop) → count < job.params.reps → RanFirst job count before old mid kept → RunStopped job (count + 1) before after mid new stop
+    → RunsStopped job after old new stop
+runs_stop job count before after old mid new kept stop few ran (no_trail memory same still) =
+    subst (λ (ts : List RunTrail). RunsStopped job ts old new stop) (sym same) (record {
+      runs = ran.runs;
+      few = omega (arith, ran.whole);
+      ends = between_runs memory (subst (λ (state : State). DidAll (acts_of_trails job before) old state) (sym still) ran.acts);
+    })
+runs_stop job count before after old mid new kept stop few ran (in_acts trail grown is stopped) =
+    let next : count + 1 ≡ 1 + length before = omega (arith, ran.whole) in
+    subst (λ (ts : List RunTrail). RunsStopped job ts old new stop) (sym grown) (record {
+      runs = AreTrailsFrom-push job 1 before trail ran.runs (subst (λ n. IsTrail job n trail) next is);
+      few = omega (arith, ran.whole, length-push before trail (length before) refl);
+      ends = in_one before trail mid refl (omega (arith, ran.whole)) ran.acts stopped;
+    })
+
+-- what a push left where it failed, and where it didn't
+pub still_same : {X : Type 0} (before after : List X) (x : X) (ok : Bool) → ok ≡ false → after ≡ cond ok (before ++ x ∷ []) before → after ≡ before
+still_same before after x ok refused is = is ∙ ap (λ b. cond b (before ++ x ∷ []) before) refused
+
+pub one_more : {X : Type 0} (before after : List X) (x found : X) (place : ℕ) (ok : Bool) → place ≡ length before → ok ≡ true → after ≡ cond ok (before ++ x ∷ []) before → found ≡ get_or after place found
+    → (after ≡ before ++ x ∷ []) × (found ≡ x)
+one_more before after x found place ok end kept is at =
+    let grown : after ≡ before ++ x ∷ [] = is ∙ ap (λ b. cond b (before ++ x ∷ []) before) kept in
+    (grown, at ∙ ap (λ xs. get_or xs place found) grown ∙ ap (λ n. get_or (before ++ x ∷ []) n found) end ∙ get_or-append_seam before x [] found)
+
+-- the trail of a run that was annealed
+pub trail_of : (job : Job) (run : ℕ) (annealed : Annealed) (turns : List ℕ) (score : Score) → IsAnnealed job run annealed → turns ≡ annealed.turns → score ≡ annealed.score
+    → IsTrail job run (record { run = run; seed = job.seed; turns = turns; score = score })
+trail_of job run annealed turns score is own_turns own_score = record {
+  run_is = refl;
+  seed = refl;
+  entries = ap length own_turns ∙ is.entries;
+  seats = subst (λ (all : List ℕ). All (λ seat. seat < job.workers) all) (sym own_turns) is.seats;
+  history = subst (λ (all : List ℕ). IsLegalHistory (setting_of job run) (replay_of (setting_of job run) all)) (sym own_turns) is.history;
+  legal = subst (λ (all : List ℕ). IsLegalPlan job.problem (final_plan job run all)) (sym own_turns) (subst (IsLegalPlan job.problem) is.plan_is is.legal);
+  score = own_score ∙ is.score_is ∙ ap (score_of_plan job.problem) (is.plan_is ∙ ap (annealed_plan job run) (sym own_turns));
+}
+
+-- a run whose acts stopped, once its trail was kept
+pub acts_stopped : (job : Job) (run : ℕ) (before after : List RunTrail) (trail found : RunTrail) (place : ℕ) (ok : Bool) (old new : State) (stop : Stop) → IsTrail job run trail → place ≡ length before → ok ≡ true
+    → after ≡ cond ok (before ++ trail ∷ []) before → found ≡ get_or after place found → Stopped (run_acts job found) old new stop → RunStopped job run before after old new stop
+acts_stopped job run before after trail found place ok old new stop is end kept grown at stopped =
+    let more = one_more before after trail found place ok end kept grown at in
+    in_acts trail more.0 is (subst (λ (t : RunTrail). Stopped (run_acts job t) old new stop) more.1 stopped)
+
+-- all of them
+pub ran_all : (job : Job) (count all : ℕ) (trails : List RunTrail) (old new : State) (kept : Option BestRun) → count ≤ all → all ≤ count → RanFirst job count trails old new kept → RanFirst job all trails old new kept
+ran_all job count all trails old new kept most least ran =
+    let same : count ≡ all = omega arith in
+    subst (λ n. RanFirst job n trails old new kept) same ran

@@ -1,5 +1,0 @@
-use Rattle.mz_run.proofs.EndingLemmas.{stopped_one}
-use Rattle.mz_run.proofs.stop.say.Goals as goal
-
-pub returns-in-Err-Failed : goal.returns-in-Err-Failed
-returns-in-Err-Failed g c = stopped_one _ _ c.in_ok-name.ensures (rw c.in-Err-Failed.field-0-is at c.in-Err-Failed.ensures)

@@ -1,0 +1,72 @@
+-- What the runs of a job leave, one after another.
+use Rattle.std.specs.Prelude.{◌≡◌, ◌<◌, ◌≤◌, ℕ, if◌then◌else◌, nat_lt, List, [], ◌∷◌, ◌++◌, length, Option, Some, None}
+use Rattle.mz_shelf.specs.State.{State}
+use Rattle.mz_shelf.specs.Chain.{DidAll}
+use Rattle.mz_shelf.specs.Performed.{Stopped}
+use Rattle.mz_shelf.specs.declared.stop.Stop.{Stop}
+use Rattle.mz_shelf.specs.declared.stop.Stop.TheVariants.{NoMemory}
+use Rattle.mz_model.specs.Plans.{IsLegalPlan}
+use Rattle.mz_model.specs.Scores.{score_of_plan}
+use Rattle.mz_run.specs.declared.job.Job.{Job}
+use Rattle.mz_run.specs.declared.trail.RunTrail.{RunTrail}
+use Rattle.mz_run.specs.declared.runs.BestRun.{BestRun}
+use Rattle.mz_run.specs.Acts.{acts_of_trails, plan_of_run, run_acts, scores_of}
+use Rattle.mz_run.specs.Best.{Best, best_of}
+use Rattle.mz_run.specs.Run.{final_plan}
+use Rattle.mz_run.specs.Trail.{AreTrails, IsTrail}
+
+-- a run that is kept, without its plan
+abbrev pub best_in : BestRun → Best
+best_in kept = record { run = kept.run; score = kept.score }
+
+-- the run that is kept of two
+abbrev pub better_run : Option BestRun → BestRun → BestRun
+better_run None last = last
+better_run (Some kept) last = if nat_lt last.score.total kept.score.total then last else kept
+
+-- the best of these runs is kept with its plan
+pub record IsBestRun (job : Job) (trails : List RunTrail) (kept : BestRun) : Type 0 where
+  pub best : best_of (scores_of trails) ≡ Some (best_in kept)
+  pub from_one : 1 ≤ kept.run
+  pub within : kept.run ≤ length trails
+  pub plan_is : kept.plan ≡ plan_of_run job trails kept.run
+  pub legal : IsLegalPlan job.problem kept.plan
+  pub score_is : kept.score ≡ score_of_plan job.problem kept.plan
+
+abbrev pub KeepsBest : Job → List RunTrail → Option BestRun → Type 0
+KeepsBest job trails None = best_of (scores_of trails) ≡ None
+KeepsBest job trails (Some kept) = IsBestRun job trails kept
+
+-- one run more: its trail stands behind the others, its acts were done, and this is the run with its last plan
+pub record RanOnce (job : Job) (run : ℕ) (before after : List RunTrail) (old new : State) (last : BestRun) : Type 0 where
+  pub trail : RunTrail
+  pub kept : after ≡ before ++ trail ∷ []
+  pub is_trail : IsTrail job run trail
+  pub acts : DidAll (run_acts job trail) old new
+  pub run_is : last.run ≡ run
+  pub score_is : last.score ≡ trail.score
+  pub plan_is : last.plan ≡ final_plan job run trail.turns
+
+-- a run that stopped: memory ended it before it had a trail, or it has one and its acts stopped
+pub data RunStopped (job : Job) (run : ℕ) (before after : List RunTrail) (old new : State) (stop : Stop) : Type 0 where
+  no_trail : stop ≡ NoMemory → after ≡ before → new ≡ old → RunStopped job run before after old new stop
+  in_acts : (trail : RunTrail) → after ≡ before ++ trail ∷ [] → IsTrail job run trail → Stopped (run_acts job trail) old new stop
+      → RunStopped job run before after old new stop
+
+-- the first runs were done
+pub record RanFirst (job : Job) (count : ℕ) (trails : List RunTrail) (old new : State) (kept : Option BestRun) : Type 0 where
+  pub runs : AreTrails job trails
+  pub whole : length trails ≡ count
+  pub acts : DidAll (acts_of_trails job trails) old new
+  pub best : KeepsBest job trails kept
+
+-- the runs stopped: memory ended them between two, or one stopped in its acts
+pub data StopsIn (job : Job) (trails : List RunTrail) (old new : State) (stop : Stop) : Type 0 where
+  between_runs : stop ≡ NoMemory → DidAll (acts_of_trails job trails) old new → StopsIn job trails old new stop
+  in_one : (earlier : List RunTrail) (trail : RunTrail) (between : State) → trails ≡ earlier ++ trail ∷ [] → length earlier < job.params.reps
+      → DidAll (acts_of_trails job earlier) old between → Stopped (run_acts job trail) between new stop → StopsIn job trails old new stop
+
+pub record RunsStopped (job : Job) (trails : List RunTrail) (old new : State) (stop : Stop) : Type 0 where
+  pub runs : AreTrails job trails
+  pub few : length trails ≤ job.params.reps
+  pub ends : StopsIn job trails old new stop

@@ -1,0 +1,17 @@
+//! Tests of the parameter file and of the top call, over bytes and answers.
+#![tactic(auto)]
+
+#[cfg(test)]
+mod folders;
+#[cfg(test)]
+mod input;
+#[cfg(test)]
+mod parameters;
+#[cfg(test)]
+mod plain;
+#[cfg(test)]
+mod targets;
+#[cfg(test)]
+mod texts;
+#[cfg(test)]
+mod words;

@@ -1,0 +1,40 @@
+//! Words of the command line.
+use crate::plain::{Outcome, project, run};
+use mz_shelf::MemShelf;
+use std::alloc::Global;
+use std::test::Fail;
+
+/// A run of these words over a shelf whose second call would fail.
+fn run_words(
+    alloc: Global,
+    words: &[&str],
+) -> Result<(Outcome, MemShelf), Fail> {
+    let mut shelf = project(alloc, vec![in alloc; 1]?, 0)?;
+    let mut texts = Vec::new(alloc);
+    for word in words {
+        texts.push(String::from_str(alloc, word)?)?;
+    }
+    let outcome = run(alloc, &texts, &mut shelf)?;
+    Ok((outcome, shelf))
+}
+
+/// The words have no form: nothing is read, and the refusal is all that is said.
+fn have_no_form(alloc: Global, words: &[&str]) -> Result<bool, Fail> {
+    let (outcome, shelf) = run_words(alloc, words)?;
+    Ok(outcome.code == 1
+        && !outcome.has_job
+        && shelf.faults() == 0
+        && shelf.reads().is_empty()
+        && shelf.said() == b"refused: words: use [file [workers]] or gen number\n".as_slice())
+}
+
+#[test]
+fn other_words_have_no_form(rt: HostRuntime) -> Result<(), Fail> {
+    let alloc = rt.alloc();
+    assert!(rt; have_no_form(alloc, &["input.dat"])?);
+    assert!(rt; have_no_form(alloc, &["a", "0"])?);
+    assert!(rt; have_no_form(alloc, &["a", "61"])?);
+    assert!(rt; have_no_form(alloc, &["a", "1", "b"])?);
+    assert!(rt; have_no_form(alloc, &["gen", "x"])?);
+    Ok(())
+}
