@@ -4,10 +4,12 @@ plain Rust loop over the same data.
 
     bench/judging.py [MOVES]
 
-It makes two regions, a grid of 2,000 and one of 100,000 units, in a folder of its own, and runs the
-program that `rt ci` left at crates/judge_bench/out/judge_bench, and the loop of bench/judging.rs as
-rustc builds it. Without rustc only the first is timed. Reading the region is timed by a run that
-judges nothing, and taken away. Both programs print the same sum where they do the same work.
+It makes grids of 2,000 and of 100,000 units, in a folder of its own, each with targets that are met, with
+targets that are missed (levels at 70% of the totals), and with missed targets of great numbers, whose
+penalties don't fit 64 bits. It runs the program that `rt ci` left at crates/judge_bench/out/judge_bench,
+and the loop of bench/judging.rs as rustc builds it. Without rustc only the first is timed. Reading the
+region is timed by a run that judges nothing, and taken away. Both programs print the same sum where they
+do the same work. The plain loop divides in 128 bits where the region's numbers ask for it.
 """
 
 import pathlib
@@ -26,7 +28,24 @@ UNIT = 10_000  # scores are whole ten-thousandths
 ROUNDS = 5
 
 
-def region(rows, columns, seed):
+class Kind:
+    """What a region's targets ask: a part of each total, and whether the numbers are great ones."""
+
+    def __init__(self, name, tenths, great):
+        self.name = name
+        self.tenths = tenths
+        self.great = great
+
+
+KINDS = [
+    Kind("targets met", 3, False),
+    Kind("targets missed", 7, False),
+    Kind("targets missed, great numbers", 7, True),
+]
+MOST = 10**12  # the greatest level and weight that the program reads
+
+
+def region(rows, columns, kind, seed):
     """The numbers of a region, in the order in which crates/judge_bench/src/region.rt reads them."""
     rng = random.Random(seed)
     units = rows * columns
@@ -48,13 +67,13 @@ def region(rows, columns, seed):
     for unit in range(units):
         for feature in range(FEATURES):
             if rng.randrange(4) == 0:
-                amount = rng.randint(1, 10) * UNIT
+                amount = rng.randint(1, 10) * (10**7 if kind.great else UNIT)
                 amounts.append((unit, feature, amount))
                 totals[feature] += amount
     numbers.append(FEATURES)
     for total in totals:
-        level = 3 * total // 10
-        numbers += [level, 5 * level]
+        level = min(kind.tenths * total // 10, MOST)
+        numbers += [level, MOST if kind.great else 5 * level]
     numbers.append(len(amounts))
     for amount in amounts:
         numbers += amount
@@ -98,14 +117,15 @@ def main():
         folder = pathlib.Path(name)
         loop = built(folder)
         for rows, columns in [(40, 50), (250, 400)]:
-            file = folder / f"region{rows * columns}"
-            file.write_text("\n".join(map(str, region(rows, columns, 1))) + "\n")
-            print(f"{rows * columns:,} units")
-            proved = timed("proved", PROGRAM, file, moves)
-            if loop is None:
-                print("plain Rust       left out: there is no rustc")
-            elif timed("plain Rust", loop, file, moves) != proved:
-                sys.exit("the two programs say different things")
+            for kind in KINDS:
+                file = folder / "region"
+                file.write_text("\n".join(map(str, region(rows, columns, kind, 1))) + "\n")
+                print(f"{rows * columns:,} units, {kind.name}")
+                proved = timed("proved", PROGRAM, file, moves)
+                if loop is None:
+                    print("plain Rust       left out: there is no rustc")
+                elif timed("plain Rust", loop, file, moves) != proved:
+                    sys.exit("the two programs say different things")
 
 
 if __name__ == "__main__":

@@ -33,6 +33,8 @@ struct Region {
     neighbours: Groups,
     targets: Vec<(u64, u64)>,
     touches: Groups,
+    /// Whether some penalty's product doesn't fit 64 bits.
+    great: bool,
 }
 
 impl Region {
@@ -47,7 +49,8 @@ impl Region {
             neighbours[first as usize].push((second as u32, len));
             neighbours[second as usize].push((first as u32, len));
         }
-        let targets = (0..next()).map(|_| (next(), next())).collect();
+        let targets: Vec<(u64, u64)> = (0..next()).map(|_| (next(), next())).collect();
+        let great = targets.iter().any(|(level, weight)| level.checked_mul(2 * weight).is_none_or(|p| p > u64::MAX / 2));
         let mut touches = vec![Vec::new(); units];
         for _ in 0..next() {
             let (unit, feature, amount) = (next(), next(), next());
@@ -55,13 +58,19 @@ impl Region {
         }
         let neighbours = Groups::new(neighbours);
         let touches = Groups::new(touches);
-        Region { units, costs, neighbours, targets, touches }
+        Region { units, costs, neighbours, targets, touches, great }
     }
 
     fn penalty(&self, row: u32, held: u64) -> u64 {
         let (level, weight) = self.targets[row as usize];
         let missing = level.saturating_sub(held);
-        if missing == 0 { 0 } else { (2 * weight * missing + level) / (2 * level) }
+        if missing == 0 {
+            0
+        } else if self.great {
+            ((2 * weight as u128 * missing as u128 + level as u128) / (2 * level as u128)) as u64
+        } else {
+            (2 * weight * missing + level) / (2 * level)
+        }
     }
 
     /// The change of score where a unit of the plan gets the zone.
