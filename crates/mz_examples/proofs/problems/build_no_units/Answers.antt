@@ -1,0 +1,7 @@
+use Rattle.std.proofs.Common.{subst, sym}
+use Rattle.mz_model.specs.Valid.{IsValid}
+use Rattle.mz_examples.proofs.ExampleLaws.{no_units-valid}
+use Rattle.mz_examples.proofs.problems.build_no_units.Goals as goal
+
+pub build-requires : goal.build-requires
+build-requires c = subst IsValid (sym c.in_ok-parts.ensures) no_units-valid
