@@ -7,7 +7,9 @@ It makes projects of 2,000, 20,000 and 100,000 planning units (three zones, two 
 sets, locks, 20 features with amounts in a quarter of the pairs, contributions, a zone target, the
 boundaries of a grid, zone boundary costs), one with 5,000,000 rows of amounts, one at the limits (100,000
 units, 60 zones, 1,500 features, 5,000,000 amounts, 90,000 zone targets), and unit files of 5,000,000 rows,
-short and long ones, whose tables are read whole before the 100,001st row is refused. It runs the
+short and long ones, whose tables are read whole before the 100,001st row is refused; and, where rustc is there,
+100,000 units with 1,000,000 amounts, once with ids that share a place in an index whose hash has a fixed key,
+and once with plain ids: both should take the same time. It runs the
 program that `rt ci` left at crates/marzone/out/marzone on each, in a folder of its own, and `wc -l` over
 the same files. A figure is the least of three runs.
 """
@@ -16,6 +18,7 @@ import os
 import pathlib
 import random
 import shutil
+import subprocess
 import sys
 import tempfile
 import time
@@ -135,6 +138,28 @@ def long_table(folder, rows, note):
     return ["input.dat", "pu.dat"]
 
 
+def looked_up(folder, ids):
+    """Writes a project of units of these ids and ten times as many rows of amounts, which name the last of them."""
+    (folder / "input.dat").write_text("PUNAME pu.dat\nFEATNAME feat.dat\nPUVSFEATNAME amounts.dat\nNUMITNS 0\nSTARTTEMP 0\nRUNMODE 6\n")
+    (folder / "feat.dat").write_text("id\n1\n")
+    (folder / "pu.dat").write_text("id,cost\n" + "".join(f"{unit},1\n" for unit in ids))
+    last = ids[-10_000:]
+    with open(folder / "amounts.dat", "w") as file:
+        file.write("featureid,puid,amount\n")
+        for _ in range(10 * len(ids) // len(last)):
+            file.write("".join(f"1,{unit},1\n" for unit in last))
+    return ["input.dat", "feat.dat", "pu.dat", "amounts.dat"]
+
+
+def colliding(folder, count):
+    """Ids that share a place in an index whose hash has a fixed key; none without rustc."""
+    if shutil.which("rustc") is None:
+        return []
+    program = folder / "colliding"
+    subprocess.run(["rustc", "-O", "-o", str(program), str(TOP / "bench" / "colliding.rs")], check=True)
+    return subprocess.run([str(program), str(count)], check=True, capture_output=True, text=True).stdout.split()
+
+
 def measured(command, folder):
     """The seconds and the peak memory, in MiB, of a command in a folder; the least time of some runs."""
     best = None
@@ -182,6 +207,12 @@ def main():
             folder = pathlib.Path(name) / title.replace(" ", "_")
             folder.mkdir()
             line(title, folder, long_table(folder, 5_000_000, note))
+        ids = colliding(pathlib.Path(name), 100_000)
+        for title, some in (("colliding ids", ids), ("plain ids", [str(unit) for unit in range(1, len(ids) + 1)])):
+            if some:
+                folder = pathlib.Path(name) / title.replace(" ", "_")
+                folder.mkdir()
+                line(title, folder, looked_up(folder, some))
     return 0
 
 

@@ -17,7 +17,8 @@ const ONE: u128 = 1_000_000;
 pub fn rates(alloc: Global, zbc: &[u64], blm: Mic6) -> Result<Vec<u128>, NoMemory>
     requires { All (λ cost. cost ≤ greatest_quantity) zbc.now }
     ensures each { IfOk result (λ rates. rates.items ≡ map (rate blm) zbc.now) }
-    ensures even { IfOk result (λ rates. (zones : ℕ) → length zbc.now ≡ zones * zones → IsEven zones zbc.now → IsEven zones rates.items) }
+    ensures even { IfOk result (λ rates. (zones : ℕ) → length zbc.now ≡ zones * zones
+        → IsEven zones zbc.now → IsEven zones rates.items) }
 {
     let modifier = u128::from(blm.0);
     let mut rates = Vec::with_capacity(alloc, zbc.len())?;

@@ -24,8 +24,8 @@ pub fn add_pairs(
     requires few { length rows.items ≤ most_amount_rows }
     requires narrow { All (λ row. row.1 < 2 ^ 32) rows.items }
     requires small { All (λ row. row.2 ≤ greatest_quantity) rows.items }
-    ensures sums { IfOk result (λ sums. (n m : ℕ) → All (λ row. row.0 < n) rows.items → All (λ row. row.1 < m) rows.items
-        → sums.items ≡ added_pairs n m rows.items) }
+    ensures sums { IfOk result (λ sums. (n m : ℕ) → All (λ row. row.0 < n) rows.items
+        → All (λ row. row.1 < m) rows.items → sums.items ≡ added_pairs n m rows.items) }
     ensures fewer { IfOk result (λ sums. length sums.items ≤ length rows.items) }
 {
     rows.sort_unstable_by_key(|row| pair_key(row));

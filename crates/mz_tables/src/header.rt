@@ -20,7 +20,8 @@ pub(crate) fn find_columns(
     requires { length wants.now ≤ 65535 }
     ensures columns { IfOk result (λ columns. columns.items ≡ columns_of (fields_of header.now) wants.now) }
     ensures there { OnOk result (position (is_missing (fields_of header.now)) wants.now ≡ None) }
-    ensures fault { IfErr result (λ fault. IsMissingFault fault (position (is_missing (fields_of header.now)) wants.now)) }
+    ensures fault { IfErr result
+        (λ fault. IsMissingFault fault (position (is_missing (fields_of header.now)) wants.now)) }
 {
     let mut columns = Vec::new(alloc);
     for (place, want) in wants.iter().enumerate() {

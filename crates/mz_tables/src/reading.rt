@@ -29,7 +29,8 @@ pub(crate) fn next_record(
 ) -> Result<bool, NoMemory>
     requires { IsReading reader.old }
     ensures reading { OnOk result (IsReading reader.new) }
-    ensures takes { IfOk result (λ found. Takes found (fields_of fields.new) (rest_of reader.old) (rest_of reader.new)) }
+    ensures takes { IfOk result
+        (λ found. Takes found (fields_of fields.new) (rest_of reader.old) (rest_of reader.new)) }
 {
     let Ok(found) = reader.read_byte_record(fields) else {
         return Err(NoMemory);

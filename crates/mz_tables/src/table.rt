@@ -37,7 +37,8 @@ impl Model for Table {
 
     ghost view = { λ a. rows_in a.columns.items a.count (fields_of a.cells) };
 
-    ghost invariant = { λ a. (length (fields_of a.cells) ≡ a.count * length a.columns.items) × (length a.columns.items ≤ 65535) × (a.count ≤ 268435456) };
+    ghost invariant = { λ a. (length (fields_of a.cells) ≡ a.count * length a.columns.items)
+        × (length a.columns.items ≤ 65535) × (a.count ≤ 268435456) };
 }
 
 impl Table {
@@ -135,7 +136,8 @@ fn push_row(
     fields: &ByteRecord,
 ) -> Result<(), NoMemory>
     requires { partial_of cells.old ≡ [] }
-    ensures cells { OnOk result (fields_of cells.new ≡ fields_of cells.old ++ map (kept_of (fields_of fields.now)) columns.now) }
+    ensures cells { OnOk result
+        (fields_of cells.new ≡ fields_of cells.old ++ map (kept_of (fields_of fields.now)) columns.now) }
     ensures partial { OnOk result (partial_of cells.new ≡ []) }
 {
     for column in columns {

@@ -68,7 +68,11 @@ pub fn read_features(alloc: Global, table: &Table) -> Result<FeatureList, RowFau
 }
 
 /// Reads a row: the id, the name and the numbers.
-fn read_feature_row(alloc: Global, table: &Table, row: u32) -> Result<(u32, Items<u8>, Feature), RowFault>
+fn read_feature_row(
+    alloc: Global,
+    table: &Table,
+    row: u32,
+) -> Result<(u32, Items<u8>, Feature), RowFault>
     requires row { row < length table.now }
     requires wide { length (get_or table.now row []) ≡ 9 }
     ensures answer { Answers result (feature_row_in (line_of row) (get_or table.now row [])) }

@@ -4,7 +4,7 @@ use Rattle.std.specs.Prelude.{◌≢◌}
 use Rattle.std.specs.List.{All, AllPairs}
 use Rattle.std.proofs.lemmas.List.{length-map, length_push, map_push}
 use Rattle.std.proofs.lemmas.List.Elements.{All-push}
-use Rattle.mz_tables.specs.Ids.{has_id, with_id}
+use Rattle.mz_tables.specs.Ids.{has_id}
 use Rattle.mz_tables.specs.Table.{Row}
 use Rattle.mz_tables.specs.declared.fault.RowFault.{RowFault}
 use Rattle.mz_tables.specs.declared.fault.RowFault.TheVariants.{TooMany, Repeated}
@@ -13,7 +13,7 @@ use Rattle.mz_units.specs.Named.{IsNamedList, named_in, named_rows, named_list_o
 use Rattle.mz_rows.specs.Rows.{RowReader, go_on, items_of}
 use Rattle.mz_units.specs.Named.{Named}
 use Rattle.mz_rows.proofs.AnswerLemmas.{fault-on}
-use Rattle.mz_rows.proofs.IdLemmas.{distinct-more, with_id-new}
+use Rattle.mz_rows.proofs.IdLemmas.{distinct-more}
 use Rattle.mz_rows.proofs.RowLemmas.{HasRead, has_read-none, has_read-all, listed, listed-past, listed-fault, listed-repeated, listed-more}
 
 abbrev id_of : Named → ℕ

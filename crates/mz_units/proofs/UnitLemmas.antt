@@ -5,7 +5,7 @@ use Rattle.std.specs.List.{All, AllPairs, flat_map}
 use Rattle.std.proofs.lemmas.List.{append-nil, length-map, length_push, map_push}
 use Rattle.std.proofs.lemmas.List.Concat.{flat_map-append}
 use Rattle.std.proofs.lemmas.List.Elements.{All-append, All-push}
-use Rattle.mz_tables.specs.Ids.{has_id, with_id}
+use Rattle.mz_tables.specs.Ids.{has_id}
 use Rattle.mz_tables.specs.Table.{Row}
 use Rattle.mz_tables.specs.declared.fault.RowFault.{RowFault}
 use Rattle.mz_tables.specs.declared.fault.RowFault.TheVariants.{TooMany, Repeated}
@@ -14,7 +14,7 @@ use Rattle.mz_rows.specs.Rows.{RowReader, go_on, items_of}
 use Rattle.mz_units.specs.UnitRows.{IsUnitList, costs_in, unit_in, unit_list, unit_rows, units_of}
 use Rattle.mz_units.specs.UnitRows.{UnitRow}
 use Rattle.mz_rows.proofs.AnswerLemmas.{fault-on}
-use Rattle.mz_rows.proofs.IdLemmas.{distinct-more, with_id-new}
+use Rattle.mz_rows.proofs.IdLemmas.{distinct-more}
 use Rattle.mz_rows.proofs.RowLemmas.{HasRead, has_read-none, has_read-all, listed, listed-past, listed-fault, listed-repeated, listed-more}
 
 -- ---- the costs of one row

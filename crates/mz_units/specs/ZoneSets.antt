@@ -1,5 +1,5 @@
 -- The file of zone sets: which zones a unit is limited to. A set is a number whose bits are the zones' places.
-use Rattle.std.specs.Prelude.{ℕ, ◌-◌, ◌^◌, ◌==◌, ◌<◌, bit_or, List, [], ◌∷◌, length, Result, Ok, if◌then◌else◌}
+use Rattle.std.specs.Prelude.{ℕ, ◌-◌, ◌^◌, ◌==◌, bit_or, List, [], ◌∷◌, length, Result, Ok, if◌then◌else◌}
 use Rattle.std.specs.List.{list_any}
 use Rattle.mz_num.specs.Limits.{most_zone_set_rows}
 use Rattle.mz_tables.specs.Table.{Row}

@@ -26,8 +26,10 @@ pub fn read_locks(
     requires wide { All (λ row. length row ≡ 2) table.now }
     ensures answer { Gives result (λ sets. sets.items) (locked_sets_of units.now zones.now allowed.now table.now) }
     ensures units { IfOk result (λ sets. length sets.items ≡ length units.now) }
-    ensures narrowed { IfOk result (λ sets. (unit : ℕ) → unit < length units.now → IsNarrowed (length zones.now) (slice_index allowed.now unit) (slice_index sets.items unit)) }
-    ensures sets { IfOk result (λ sets. All (IsZoneSet (length zones.now)) allowed.now → All (IsZoneSet (length zones.now)) sets.items) }
+    ensures narrowed { IfOk result (λ sets. (unit : ℕ) → unit < length units.now
+        → IsNarrowed (length zones.now) (slice_index allowed.now unit) (slice_index sets.items unit)) }
+    ensures sets { IfOk result (λ sets. All (IsZoneSet (length zones.now)) allowed.now
+        → All (IsZoneSet (length zones.now)) sets.items) }
 {
     let mut locked = vec![in alloc; false; allowed.len()]?;
     let mut sets = allowed.to_vec(alloc)?;

@@ -25,10 +25,12 @@ pub fn cost_terms(
     requires costs { (costs : ℕ) × HasCosts costs units.now mult.now zones }
     requires small_costs { All (λ cost. cost ≤ greatest_quantity) units.now.costs }
     requires small_multipliers { All (λ multiplier. multiplier ≤ greatest_quantity) mult.now }
-    ensures { IfOk result (λ terms. (costs : ℕ) → HasCosts costs units.now mult.now zones → AreCostTerms costs units.now mult.now zones terms.items) }
+    ensures { IfOk result (λ terms. (costs : ℕ) → HasCosts costs units.now mult.now zones
+        → AreCostTerms costs units.now mult.now zones terms.items) }
 {
     let costs = cost_count(mult.len(), zones);
-    let mut terms = Vec::new(alloc);
+    let pairs = units.ids.len() as usize * zones as usize;
+    let mut terms = Vec::with_capacity(alloc, pairs)?;
     for unit in 0..units.ids.len() {
         push_terms(
             &mut terms,
@@ -68,7 +70,8 @@ fn push_terms(
     requires zones { zones * costs ≤ length mult.now }
     requires small_costs { All (λ cost. cost ≤ greatest_quantity) unit_costs.now }
     requires small_multipliers { All (λ multiplier. multiplier ≤ greatest_quantity) mult.now }
-    ensures { OnOk result (terms.new.items ≡ terms.old.items ++ list_below zones (cost_term costs unit_costs.now mult.now unit)) }
+    ensures { OnOk result (terms.new.items ≡
+        terms.old.items ++ list_below zones (cost_term costs unit_costs.now mult.now unit)) }
 {
     for zone in 0..zones {
         terms.push(term(unit_costs, mult, costs, unit, zone as usize))?;
