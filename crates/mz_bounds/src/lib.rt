@@ -7,8 +7,6 @@ mod columns;
 mod outer;
 mod pair;
 mod rate;
-#[cfg(test)]
-mod tests;
 mod wanted;
 mod zone_bounds;
 

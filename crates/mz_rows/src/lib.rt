@@ -6,8 +6,6 @@ mod by_zone;
 mod field;
 mod new_id;
 mod pairs;
-#[cfg(test)]
-mod tests;
 
 pub use by_zone::read_by_zone;
 pub use field::{id_at, mic6_at, place_at, ten4_at, text_at};

@@ -10,9 +10,6 @@ use mz_num::NoMemory;
 use std::alloc::Global;
 use std::marker::Model;
 
-#[cfg(test)]
-mod tests;
-
 /// A list of distinct ids, each found by one look-up.
 #[derive(Drop)]
 pub struct Ids {

@@ -16,9 +16,6 @@ use std::alloc::Global;
 use std::hash::{DefaultHasher, Hasher};
 use std::marker::Model;
 
-#[cfg(test)]
-mod tests;
-
 /// The wanted columns of a file with a header. All fields stand in one buffer with offsets.
 #[derive(Drop)]
 pub struct Table {

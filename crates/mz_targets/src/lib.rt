@@ -8,8 +8,6 @@ mod contribs;
 mod features;
 mod level;
 mod optional;
-#[cfg(test)]
-mod tests;
 mod wanted;
 mod zone_targets;
 

@@ -6,8 +6,6 @@ mod columns;
 mod locks;
 mod named;
 mod terms;
-#[cfg(test)]
-mod tests;
 mod unit_zone;
 mod units;
 mod wanted;

@@ -1,37 +1,11 @@
-//! The readers over small tables. Each helper answers a small value, which the tests compare.
+//! The files of boundaries and of zone boundary costs, and the rates.
 ghost use Rattle.std.specs.Prelude.{◌≤◌, length, IfOk};
 
-use super::*;
+use super::Refusal;
+use mz_bounds::{Bounds, rates, read_bounds, read_zone_bounds, wants_bounds, wants_zone_bounds};
 use mz_num::{Mic6, NoMemory, NumFault};
-use mz_tables::{Ids, RowFault, Table, TableFault};
+use mz_tables::{Ids, RowFault, Table};
 use std::alloc::Global;
-use std::test::Fail;
-
-/// Why a small table isn't read.
-#[derive(Clone, Copy, Debug, PartialEq, Eq)]
-enum Refusal {
-    NoMemory,
-    Table(TableFault),
-    Row(RowFault),
-}
-
-impl From<NoMemory> for Refusal {
-    fn from(_error: NoMemory) -> Refusal {
-        Refusal::NoMemory
-    }
-}
-
-impl From<TableFault> for Refusal {
-    fn from(fault: TableFault) -> Refusal {
-        Refusal::Table(fault)
-    }
-}
-
-impl From<RowFault> for Refusal {
-    fn from(fault: RowFault) -> Refusal {
-        Refusal::Row(fault)
-    }
-}
 
 /// The ids 1 and 2.
 fn two_ids(alloc: Global) -> Result<Ids, NoMemory>
@@ -107,6 +81,26 @@ fn four_costs(alloc: Global, bytes: &[u8]) -> Result<Option<(u64, u64, u64, u64)
     })
 }
 
+/// The rates between two zones, in their order.
+fn four_rates(
+    alloc: Global,
+    bytes: &[u8],
+    modifier: u64,
+) -> Result<Option<(u128, u128, u128, u128)>, Refusal>
+    requires small { length bytes.now ≤ 1000 }
+    requires modifier { modifier ≤ 1000000 }
+{
+    let zones = two_ids(alloc)?;
+    let wants = wants_zone_bounds(alloc)?;
+    let table = Table::read(alloc, bytes, &wants)?;
+    let costs = read_zone_bounds(alloc, &table, &zones)?;
+    let rates = rates(alloc, &costs, Mic6(modifier))?;
+    Ok(match rates.as_slice() {
+        [first, second, third, fourth] => Some((*first, *second, *third, *fourth)),
+        _ => None,
+    })
+}
+
 /// The rate of a cost, both in millionths.
 fn one_rate(alloc: Global, cost: u64, modifier: u64) -> Result<Option<u128>, NoMemory>
     requires cost { cost ≤ 1000000 }
@@ -121,7 +115,8 @@ fn one_rate(alloc: Global, cost: u64, modifier: u64) -> Result<Option<u128>, NoM
 
 #[test]
 fn adds_the_rows_of_a_pair(rt: HostRuntime) {
-    let rows: [(&[u8], Result<Option<(u32, u32, u128)>, Refusal>); 5] = [
+    let rows: [(&[u8], Result<Option<(u32, u32, u128)>, Refusal>); 6] = [
+        (b"id1,id2,boundary\n1,2,3\n2,1,2\n", Ok(Some((0, 1, 50000)))),
         (
             b"id1,id2,boundary\n1,2,5\n2,1,3\n1,1,2\n",
             Ok(Some((0, 1, 80000))),
@@ -199,4 +194,14 @@ fn multiplies_and_rounds_the_rates(rt: HostRuntime) {
         assert!(rt; cost <= 1_000_000 && modifier <= 1_000_000);
         assert_eq!(rt; one_rate(rt.alloc(), cost, modifier), Ok(Some(rate)));
     }
+}
+
+#[test]
+fn rates_a_zone_boundary_row(rt: HostRuntime) {
+    let bytes: &[u8] = b"zoneid1,zoneid2,cost\n1,2,0.5\n";
+    assert!(rt; bytes.len() <= 1000);
+    assert_eq!(rt;
+        four_rates(rt.alloc(), bytes, 1_000_000),
+        Ok(Some((0, 500_000, 500_000, 0)))
+    );
 }

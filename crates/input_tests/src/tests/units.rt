@@ -1,40 +1,18 @@
-//! The readers over small tables. Each helper answers a small value, which the tests compare.
+//! The files of zones, costs, units, zone costs, zone sets and locks.
 ghost use Rattle.std.specs.Prelude.{◌≡◌, ◌≤◌, length, IfOk};
 ghost use Rattle.mz_units.specs.Named.{IsNamedList};
 ghost use Rattle.mz_units.specs.UnitRows.{IsUnitList};
 ghost use Rattle.mz_rows.specs.ByZone.{AreByZone};
 
-use super::*;
-use mz_num::{NoMemory, NumFault};
+use super::Refusal;
+use mz_num::NumFault;
 use mz_tables::{Ids, RowFault, Table, TableFault};
+use mz_units::{
+    CostList, UnitList, ZoneList, cost_terms, read_costs, read_locks, read_units, read_zone_costs,
+    read_zone_sets, read_zones, wants_costs, wants_locks, wants_units, wants_zone_costs,
+    wants_zone_sets, wants_zones,
+};
 use std::alloc::Global;
-use std::test::Fail;
-
-/// Why a small table isn't read.
-#[derive(Clone, Copy, Debug, PartialEq, Eq)]
-enum Refusal {
-    NoMemory,
-    Table(TableFault),
-    Row(RowFault),
-}
-
-impl From<NoMemory> for Refusal {
-    fn from(_error: NoMemory) -> Refusal {
-        Refusal::NoMemory
-    }
-}
-
-impl From<TableFault> for Refusal {
-    fn from(fault: TableFault) -> Refusal {
-        Refusal::Table(fault)
-    }
-}
-
-impl From<RowFault> for Refusal {
-    fn from(fault: RowFault) -> Refusal {
-        Refusal::Row(fault)
-    }
-}
 
 fn zones_in(alloc: Global, bytes: &[u8]) -> Result<ZoneList, Refusal>
     requires { length bytes.now ≤ 1000 }

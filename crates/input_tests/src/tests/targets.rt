@@ -1,37 +1,14 @@
-//! The readers over small tables. Each helper answers a small value, which the tests compare.
+//! The files of amounts, contributions and zone targets, and the level of a target.
 ghost use Rattle.std.specs.Prelude.{◌≤◌, length, IfOk};
 
-use super::*;
+use super::Refusal;
 use mz_num::{NoMemory, NumFault};
-use mz_tables::{Ids, RowFault, Table, TableFault};
+use mz_tables::{Ids, RowFault, Table};
+use mz_targets::{
+    ZoneTarget, level_of, read_amounts, read_contribs, read_zone_targets, wants_amounts,
+    wants_contribs, wants_zone_targets,
+};
 use std::alloc::Global;
-use std::test::Fail;
-
-/// Why a small table isn't read.
-#[derive(Clone, Copy, Debug, PartialEq, Eq)]
-enum Refusal {
-    NoMemory,
-    Table(TableFault),
-    Row(RowFault),
-}
-
-impl From<NoMemory> for Refusal {
-    fn from(_error: NoMemory) -> Refusal {
-        Refusal::NoMemory
-    }
-}
-
-impl From<TableFault> for Refusal {
-    fn from(fault: TableFault) -> Refusal {
-        Refusal::Table(fault)
-    }
-}
-
-impl From<RowFault> for Refusal {
-    fn from(fault: RowFault) -> Refusal {
-        Refusal::Row(fault)
-    }
-}
 
 /// The ids 1, 2 and 3.
 fn three_ids(alloc: Global) -> Result<Ids, NoMemory>
@@ -42,14 +19,6 @@ fn three_ids(alloc: Global) -> Result<Ids, NoMemory>
     ids.add(alloc, 2)?;
     ids.add(alloc, 3)?;
     Ok(ids)
-}
-
-fn features_in(alloc: Global, bytes: &[u8]) -> Result<FeatureList, Refusal>
-    requires { length bytes.now ≤ 1000 }
-{
-    let wants = wants_features(alloc)?;
-    let table = Table::read(alloc, bytes, &wants)?;
-    Ok(read_features(alloc, &table)?)
 }
 
 fn amounts_in(alloc: Global, bytes: &[u8], ids: &Ids) -> Result<Vec<(u32, u32, u128)>, Refusal>
@@ -76,31 +45,6 @@ fn targets_in(alloc: Global, bytes: &[u8], ids: &Ids) -> Result<Vec<ZoneTarget>,
     let wants = wants_zone_targets(alloc)?;
     let table = Table::read(alloc, bytes, &wants)?;
     Ok(read_zone_targets(alloc, &table, ids, ids)?)
-}
-
-/// The target, proportion and penalty factor of the one feature.
-fn one_feature(alloc: Global, bytes: &[u8]) -> Result<Option<(u64, u64, u64)>, Refusal>
-    requires { length bytes.now ≤ 1000 }
-{
-    let features = features_in(alloc, bytes)?;
-    Ok(match features.rows.as_slice() {
-        [feature] => Some((feature.target, feature.prop, feature.spf)),
-        _ => None,
-    })
-}
-
-/// The two bytes of the name of the one feature.
-fn one_name(alloc: Global, bytes: &[u8]) -> Result<Option<(u8, u8)>, Refusal>
-    requires { length bytes.now ≤ 1000 }
-{
-    let features = features_in(alloc, bytes)?;
-    let [name] = features.names.as_slice() else {
-        return Ok(None);
-    };
-    Ok(match name.as_slice() {
-        [first, second] => Some((*first, *second)),
-        _ => None,
-    })
 }
 
 /// The sums of the three pairs that are listed.
@@ -149,54 +93,6 @@ fn one_target(alloc: Global, bytes: &[u8]) -> Result<Option<(u8, u32, u64, u8)>,
         [target] => Some((target.zone, target.feature, target.value, target.kind)),
         _ => None,
     })
-}
-
-#[test]
-fn reads_features_with_their_defaults(rt: HostRuntime) {
-    let rows: [(&[u8], Result<Option<(u64, u64, u64)>, Refusal>); 6] = [
-        (b"id\n1\n", Ok(Some((0, 0, 1000000)))),
-        (b"id,target,fpf\n1,0.5,2\n", Ok(Some((5000, 0, 2000000)))),
-        (b"id,prop,spf\n1,0.3,\n", Ok(Some((0, 300000, 1000000)))),
-        (b"id,spf\n1,0\n", Ok(Some((0, 0, 0)))),
-        (
-            b"id,target,sepnum\n1,3,0.00001\n",
-            Ok(Some((30000, 0, 1000000))),
-        ),
-        (b"id\n1\n2\n", Ok(None)),
-    ];
-    for (bytes, answer) in rows {
-        assert!(rt; bytes.len() <= 1000);
-        assert_eq!(rt; one_feature(rt.alloc(), bytes), answer);
-    }
-}
-
-#[test]
-fn tells_the_first_fault_of_features(rt: HostRuntime) {
-    let rows: [(&[u8], RowFault); 5] = [
-        (b"id,sepnum\n1,2\n", RowFault::LeftOut(2, 6)),
-        (b"id,targetocc\n1,\n2,1\n", RowFault::LeftOut(3, 8)),
-        (
-            b"id,sepnum,target2\n1,2,x\n",
-            RowFault::BadNumber(2, 5, NumFault::NotANumber),
-        ),
-        (
-            b"id,spf,prop\n1,-1,-1\n",
-            RowFault::BadNumber(2, 2, NumFault::Negative),
-        ),
-        (b"id\n1\n2\n1\n", RowFault::Repeated(4)),
-    ];
-    for (bytes, fault) in rows {
-        assert!(rt; bytes.len() <= 1000);
-        assert_eq!(rt; one_feature(rt.alloc(), bytes), Err(Refusal::Row(fault)));
-    }
-}
-
-#[test]
-fn keeps_a_name_that_is_no_text(rt: HostRuntime) {
-    assert_eq!(rt;
-        one_name(rt.alloc(), b"id,name\n1,\xff\xfe\n"),
-        Ok(Some((255, 254)))
-    );
 }
 
 #[test]

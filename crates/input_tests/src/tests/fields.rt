@@ -1,9 +1,9 @@
-//! The fields of small tables.
+//! The fields of rows, and numbers by zone.
 ghost use Rattle.std.specs.Prelude.{◌≡◌, ◌≤◌, length, IfOk};
 ghost use Rattle.std.specs.List.{All};
 
-use super::*;
 use mz_num::{NoMemory, NumFault};
+use mz_rows::{id_at, mic6_at, place_at, read_by_zone, ten4_at, text_at};
 use mz_tables::{Ids, RowFault, Table, Wants};
 use std::alloc::Global;
 use std::test::Fail;

@@ -1,4 +1,6 @@
-use super::*;
+//! Distinct ids.
+use mz_rows::add_id;
+use mz_tables::{Ids, RowFault};
 use std::test::Fail;
 
 #[test]
@@ -23,5 +25,17 @@ fn keeps_distinct_ids_in_their_order(rt: HostRuntime) -> Result<(), Fail> {
     assert_eq!(rt; ids.id(0), 7);
     assert_eq!(rt; ids.id(1), 4_294_967_295);
     assert_eq!(rt; ids.id(2), 0);
+    Ok(())
+}
+
+#[test]
+fn adds_the_id_of_a_row_once(rt: HostRuntime) -> Result<(), Fail> {
+    let alloc = rt.alloc();
+    let mut ids = Ids::new(alloc)?;
+    assert_eq!(rt; add_id(alloc, &mut ids, 7, 2), Ok(()));
+    assert_eq!(rt; add_id(alloc, &mut ids, 5, 3), Ok(()));
+    assert_eq!(rt; ids.place(5), Some(1));
+    assert!(rt; ids.len() < 4_294_967_295);
+    assert_eq!(rt; add_id(alloc, &mut ids, 7, 4), Err(RowFault::Repeated(4)));
     Ok(())
 }

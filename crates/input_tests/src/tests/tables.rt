@@ -1,6 +1,9 @@
+//! Tables.
 ghost use Rattle.std.specs.Prelude.{◌≡◌, ◌≤◌, length, IfOk};
 
-use super::*;
+use mz_num::NoMemory;
+use mz_tables::{Column, Table, TableFault, Wants};
+use std::alloc::Global;
 use std::test::Fail;
 
 const AMOUNTS: &[u8] = b"species,pu,amount\n1,1,2\n1,2,3\n1,3,4\n";
@@ -20,11 +23,24 @@ fn amounts(alloc: Global) -> Result<Wants, NoMemory>
 fn features(alloc: Global) -> Result<Wants, NoMemory>
     ensures { IfOk result (λ wants. length wants ≡ 3) }
 {
-    let mut wants = Wants::new(alloc)?;
-    wants.add(alloc, b"id", b"", true)?;
-    wants.add(alloc, b"spf", b"fpf", false)?;
-    wants.add(alloc, b"name", b"", false)?;
-    Ok(wants)
+    let columns = [
+        Column {
+            name: "id",
+            other: "",
+            needed: true,
+        },
+        Column {
+            name: "spf",
+            other: "fpf",
+            needed: false,
+        },
+        Column {
+            name: "name",
+            other: "",
+            needed: false,
+        },
+    ];
+    Wants::of(alloc, &columns)
 }
 
 /// The fields of a table of three columns, with a bar behind each, and `-` for a column that isn't there.
@@ -141,6 +157,33 @@ fn tells_the_first_fault(rt: HostRuntime) -> Result<(), Fail> {
     for (bytes, fault) in rows {
         assert!(rt; bytes.len() <= 100);
         assert_eq!(rt; Table::read(rt.alloc(), bytes, &wants).err(), Some(fault));
+    }
+    Ok(())
+}
+
+/// The line of the last row.
+fn last_line(alloc: Global, bytes: &[u8], wants: &Wants) -> Result<Option<u32>, TableFault>
+    requires { length bytes.now ≤ 268435456 }
+{
+    let table = Table::read(alloc, bytes, wants)?;
+    let rows = table.rows();
+    if rows == 0 {
+        return Ok(None);
+    }
+    Ok(Some(table.line(rows - 1)))
+}
+
+#[test]
+fn counts_the_header_as_line_1(rt: HostRuntime) -> Result<(), Fail> {
+    let wants = amounts(rt.alloc())?;
+    let rows: [(&[u8], Option<u32>); 3] = [
+        (AMOUNTS, Some(4)),
+        (b"species,pu,amount\n\n1,1,2\n\n", Some(2)),
+        (b"species,pu,amount\n", None),
+    ];
+    for (bytes, line) in rows {
+        assert!(rt; bytes.len() <= 100);
+        assert_eq!(rt; last_line(rt.alloc(), bytes, &wants)?, line);
     }
     Ok(())
 }
