@@ -1,7 +1,6 @@
+mod AnnealLemmas
 mod EndingLemmas
-mod HistoryLemmas
 mod PreparedLemmas
 mod RunLemmas
-mod StartLemmas
 mod TextLemmas
 mod WorkLemmas

@@ -25,7 +25,7 @@ use Rattle.mz_run.specs.Best.{Best, better, best_from, best_of}
 use Rattle.mz_run.specs.Ran.{IsBestRun, KeepsBest, RanFirst, RanOnce, RunStopped, RunsStopped, best_in, better_run}
 use Rattle.mz_run.specs.Ran.RunStopped.{no_trail, in_acts}
 use Rattle.mz_run.specs.Ran.StopsIn.{between_runs, in_one}
-use Rattle.mz_run.specs.Replay.{IsLegalHistory, replay_of}
+use Rattle.mz_history.specs.Replay.{IsLegalHistory, replay_of}
 use Rattle.mz_run.specs.Run.{annealed_plan, final_plan, setting_of}
 use Rattle.mz_run.specs.Trail.{AreTrailsFrom, IsTrail}
 

@@ -6,7 +6,7 @@ use Rattle.mz_model.specs.Scores.{score_of_plan}
 use Rattle.mz_run.specs.declared.anneal.Annealed.{Annealed}
 use Rattle.mz_run.specs.declared.job.Job.{Job}
 use Rattle.mz_run.specs.Run.{annealed_plan, entries_of_run, setting_of}
-use Rattle.mz_run.specs.Replay.{IsLegalHistory, replay_of}
+use Rattle.mz_history.specs.Replay.{IsLegalHistory, replay_of}
 
 -- turns of the workers, as many as the run has entries, which play a legal history; the plan that it ends with; and
 -- its score

@@ -4,16 +4,13 @@ pub mod Arguments
 pub mod Best
 pub mod Cooling
 pub mod Ending
-pub mod Entry
 pub mod Lines
 pub mod Prepared
 pub mod Program
 pub mod Project
 pub mod Ran
 pub mod Refusal
-pub mod Replay
 pub mod Run
 pub mod Solution
-pub mod Start
 pub mod Supported
 pub mod Trail

@@ -4,7 +4,7 @@ use Rattle.mz_params.specs.declared.params.Params.{Params}
 use Rattle.mz_model.specs.Zones.{free_units}
 use Rattle.mz_run.specs.declared.job.Job.{Job}
 use Rattle.mz_run.specs.Cooling.{cooling_of}
-use Rattle.mz_run.specs.Replay.{Setting, replay_of, plan_of_history}
+use Rattle.mz_history.specs.Replay.{Setting, replay_of, plan_of_history}
 
 -- the random seed: RANDSEED, or the one that was handed in where it is negative or not given
 abbrev pub seed_of : Params → ℕ → ℕ

@@ -6,7 +6,7 @@ use Rattle.mz_model.specs.Scores.{score_of_plan}
 use Rattle.mz_run.specs.declared.job.Job.{Job}
 use Rattle.mz_run.specs.declared.trail.RunTrail.{RunTrail}
 use Rattle.mz_run.specs.Run.{entries_of_run, final_plan, setting_of}
-use Rattle.mz_run.specs.Replay.{IsLegalHistory, replay_of}
+use Rattle.mz_history.specs.Replay.{IsLegalHistory, replay_of}
 
 -- the trail of a run: its number, the random seed, as many turns of the workers as the run has entries; what these
 -- turns play is a legal annealing history, the run ends with a legal plan, and the score is that plan's

@@ -4,7 +4,6 @@
 mod anneal;
 mod arguments;
 mod closing;
-mod entry;
 mod input_text;
 mod job;
 mod lines;
@@ -16,12 +15,10 @@ mod refusal;
 mod run_outputs;
 mod runs;
 mod solution;
-mod start;
 mod status;
 mod supported;
 mod trail;
 
-pub use entry::Entry;
 pub use job::{Finished, Job};
 pub use mz_project::{InputFault, What, Which};
 pub use preparation::prepare;

@@ -4,8 +4,6 @@ ghost use Rattle.mz_params.specs.ParamFile.{IsAccepted};
 ghost use Rattle.mz_run.specs.Supported.{IsSupported, first_key, output_tests, search_tests};
 ghost use Rattle.mz_run.specs.Project.{unbuilt_key as unbuilt_key_of};
 
-use mz_num::Mic6;
-use mz_num::limits::MILLION;
 use mz_params::{Key, Params};
 
 /// The first key, in the order of keys, that asks for what isn't built yet.
@@ -31,11 +29,8 @@ fn search_key(params: &Params) -> Option<Key>
     ensures { result ≡ first_key (search_tests params.now) }
 {
     first(&[
-        (params.prop.0 > 0, Key::Prop),
         (params.reps > 1, Key::NumReps),
         (params.start.is_none(), Key::StartTemp),
-        (params.cool.0 != MILLION, Key::CoolFac),
-        (params.levels > 1, Key::NumTemp),
         (params.mode != 6, Key::RunMode),
     ])
 }

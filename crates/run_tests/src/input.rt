@@ -47,8 +47,8 @@ fn a_further_line_is_refused(rt: HostRuntime) -> Result<(), Fail> {
             b"refused: input: AVAILABLEZONE out of range\n".as_slice(),
         ),
         (
-            "SAVETURNS 2\nPROP 0.5",
-            b"refused: input: PROP left out\n".as_slice(),
+            "SAVETURNS 2\nNUMREPS 2",
+            b"refused: input: NUMREPS left out\n".as_slice(),
         ),
         (
             "SAVERUN 3\nNUMREPS 2",

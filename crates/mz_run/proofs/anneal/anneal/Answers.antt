@@ -1,37 +1,18 @@
-use Rattle.std.proofs.lemmas.Grind.{common_steps}
-use Rattle.std.proofs.Common.{arith, rules, sym, ap, ◌∙◌}
-use Rattle.mz_run.specs.Run.{setting_of}
-use Rattle.mz_run.specs.Replay.{entries_from}
-use Rattle.mz_run.specs.Start.{starting_plan}
-use Rattle.mz_run.proofs.HistoryLemmas.{plan_step, draw_is, drawer_next, replay_of-legal}
+use Rattle.std.proofs.Common.{◌≡◌, ap, sym, ◌∙◌, length, replicate, arith, rules}
+use Rattle.std.proofs.lemmas.List.{length-replicate}
+use Rattle.mz_run.proofs.AnnealLemmas.{annealed-of, given-start, setting-is}
 use Rattle.mz_run.proofs.anneal.anneal.Goals as goal
 
-pub loop-position-init : goal.loop-position-init
-unfolding entries_from
-loop-position-init c = record {
-  plan = c.in_ok-plan.ensures.plan c.args.job.now.seed c.args.run ∙ ap (λ prop. starting_plan c.args.job.now.problem prop c.args.job.now.seed c.args.run) (sym c.requires.supported.prop);
-  legal = c.in_ok-plan.ensures.legal;
-  score = c.evaluate-score.ensures.score;
-  small = c.evaluate-score.ensures.small;
-  drawer = c.new-drawer.ensures;
-}
-
-pub loop-position-preserved : goal.loop-position-preserved
-loop-position-preserved c = record {
-  plan = plan_step c.args.job.now c.args.run c.loop-position.position c.loop-position.plan c.propose.new.plan c.in_ok-rules.rules.schedule c.next-draw.result c.propose.result c.loop-position.invariant.plan c.in_ok-rules.ensures
-      (draw_is c.loop-position.drawer c.args.job.now.seed c.args.run c.loop-position.position _ _ _ _ c.next-draw.result c.loop-position.invariant.drawer c.free.ensures.units c.counts.ensures.counts c.next-draw.ensures.drawn) c.propose.ensures.entry c.propose.ensures.plan;
-  legal = c.propose.ensures.stays_legal;
-  score = c.propose.ensures.new_score;
-  small = c.propose.ensures.stays_small;
-  drawer = drawer_next c.loop-position.drawer _ c.args.job.now.seed c.args.run c.loop-position.position c.loop-position.invariant.drawer c.next-draw.ensures.taken;
-}
+pub replay-requires-clause-few : goal.replay-requires-clause-few
+replay-requires-clause-few c =
+    let all : c.in_ok-turns.turns.items ≡ replicate c.entries_of.result 0 = search rules in
+    let turns = ap length (c.deref.ensures.value ∙ all) ∙ length-replicate c.entries_of.result 0 in
+    omega (arith, c.entries_of.ensures.limit, c.in_ok-rules.ensures.limit)
 
 pub returns : goal.returns
-returns c = record {
-  entries = search rules;
-  seats = grind (arith, common_steps);
-  history = replay_of-legal (setting_of c.args.job.now c.args.run) c.new.result;
-  plan_is = search rules;
-  legal = search rules;
-  score_is = search rules;
-}
+returns c =
+    let all : c.in_ok-turns.turns.items ≡ replicate c.entries_of.result 0 = search rules in
+    let start = given-start c.args.job.now.params.start c.requires.supported.given in
+    annealed-of c.args.job.now c.args.run c.entries_of.result _ _ _ _ c.requires.some_worker
+    (setting-is c.args.job.now c.args.run start.0 c.in_ok-rules.rules start.1 (c.in_ok-rules.ensures.fixed start.0 start.1)) c.entries_of.ensures.entries
+    (c.new.ensures ∙ all) (c.deref.ensures.value ∙ sym c.new.ensures) c.in_ok-played.ensures

@@ -1,0 +1,5 @@
+pub mod HistoryLaws
+pub mod OvertakingLemmas
+pub mod ReplayLemmas
+pub mod StartLemmas
+pub mod WorldLemmas

@@ -1,0 +1,10 @@
+pub mod Core
+pub mod Entry
+pub mod Items
+pub mod Moves
+pub mod Replay
+pub mod Rules
+pub mod SeatWords
+pub mod Start
+pub mod Verdict
+pub mod World
