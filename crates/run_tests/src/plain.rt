@@ -80,7 +80,11 @@ fn seen(alloc: Global, finished: &Finished) -> Result<Outcome, AllocError> {
     })
 }
 
-pub(crate) fn run(alloc: Global, words: &[String], shelf: &mut impl Shelf) -> Result<Outcome, AllocError> {
+pub(crate) fn run(
+    alloc: Global,
+    words: &[String],
+    shelf: &mut impl Shelf,
+) -> Result<Outcome, AllocError> {
     seen(alloc, &marzone(alloc, words, 0, shelf))
 }
 

@@ -5,10 +5,7 @@ use std::alloc::Global;
 use std::test::Fail;
 
 /// A run of these words over a shelf whose second call would fail.
-fn run_words(
-    alloc: Global,
-    words: &[&str],
-) -> Result<(Outcome, MemShelf), Fail> {
+fn run_words(alloc: Global, words: &[&str]) -> Result<(Outcome, MemShelf), Fail> {
     let mut shelf = project(alloc, vec![in alloc; 1]?, 0)?;
     let mut texts = Vec::new(alloc);
     for word in words {
@@ -21,11 +18,13 @@ fn run_words(
 /// The words have no form: nothing is read, and the refusal is all that is said.
 fn have_no_form(alloc: Global, words: &[&str]) -> Result<bool, Fail> {
     let (outcome, shelf) = run_words(alloc, words)?;
-    Ok(outcome.code == 1
-        && !outcome.has_job
-        && shelf.faults() == 0
-        && shelf.reads().is_empty()
-        && shelf.said() == b"refused: words: use [file [workers]] or gen number\n".as_slice())
+    Ok(
+        outcome.code == 1
+            && !outcome.has_job
+            && shelf.faults() == 0
+            && shelf.reads().is_empty()
+            && shelf.said() == b"refused: words: use [file [workers]] or gen number\n".as_slice(),
+    )
 }
 
 #[test]
