@@ -6,7 +6,7 @@ use mz_history::Rules;
 use mz_num::{Mic6, NoMemory};
 use std::alloc::Global;
 
-mod core;
+mod events;
 mod replays;
 mod starts;
 

@@ -1,6 +1,6 @@
 //! Events of two workers on the three units with a target and boundaries. The random seeds are the least
 //! ones whose draws are of the stated units, worked out of the words of Pcg32 by a script of their own.
-ghost use Rattle.std.specs.Prelude.{◌≡◌, ◌≤◌};
+ghost use Rattle.std.specs.Prelude.{◌≡◌, ◌≤◌, ◌^◌};
 ghost use Rattle.mz_history.specs.World.{WorldState};
 
 use super::rules;
@@ -25,7 +25,7 @@ enum Told {
 
 use Told::{Again, Decided, Full, Looked, Strange};
 
-fn told(reply: Reply) -> Told {
+fn brief(reply: Reply) -> Told {
     match reply {
         Reply::Looked => Looked,
         Reply::Decided(entry) => Decided(entry.number, entry.change, entry.accepted),
@@ -48,23 +48,38 @@ fn replies(problem: &Problem, rules: &Rules, mut world: World, events: [Event; 6
     let r3 = world.step(problem, rules, e3);
     let r4 = world.step(problem, rules, e4);
     let r5 = world.step(problem, rules, e5);
-    [told(r0), told(r1), told(r2), told(r3), told(r4), told(r5)]
+    [
+        brief(r0),
+        brief(r1),
+        brief(r2),
+        brief(r3),
+        brief(r4),
+        brief(r5),
+    ]
 }
 
-/// The replies to six events of two seats in run 1, at a temperature at which small rises are taken.
+/// The temperature at which small rises are taken, and the one at which none is.
+const WARM: u128 = 10_000_000_000;
+
+const COLD: u128 = 1;
+
+/// The replies to six events of two seats in run 1.
 fn played(
     alloc: Global,
     limit: u32,
+    temperature: u128,
     seed: u64,
     events: [Event; 6],
 ) -> Result<Option<[Told; 6]>, NoMemory>
-    requires { limit ≤ 10000000 }
+    requires few { limit ≤ 10000000 }
+    requires above { 1 ≤ temperature }
+    requires below { temperature ≤ 10 ^ 29 }
 {
     let problem = build_three_units(alloc)?;
     if problem.free().is_empty() {
         return Ok(None);
     }
-    let rules = rules(alloc, limit, 10_000_000_000)?;
+    let rules = rules(alloc, limit, temperature)?;
     let world = World::open(alloc, &problem, &rules, seed, 1, 2)?;
     Ok(Some(replies(&problem, &rules, world, events)))
 }
@@ -90,7 +105,7 @@ fn a_neighbour_overtakes(rt: HostRuntime) -> Result<(), Fail> {
         Looked,
         Decided(0, -80_000, true),
     ];
-    assert!(rt; played(rt.alloc(), 100, 6, events)? == Some(replies));
+    assert!(rt; played(rt.alloc(), 100, WARM, 6, events)? == Some(replies));
     Ok(())
 }
 
@@ -112,7 +127,7 @@ fn a_move_there_and_back_overtakes(rt: HostRuntime) -> Result<(), Fail> {
         Decided(1, -ONE, true),
         Again(1),
     ];
-    assert!(rt; played(rt.alloc(), 100, 6, events)? == Some(replies));
+    assert!(rt; played(rt.alloc(), 100, WARM, 6, events)? == Some(replies));
     Ok(())
 }
 
@@ -134,7 +149,29 @@ fn a_target_row_overtakes(rt: HostRuntime) -> Result<(), Fail> {
         Looked,
         Decided(0, 170_000, true),
     ];
-    assert!(rt; played(rt.alloc(), 100, 0, events)? == Some(replies));
+    assert!(rt; played(rt.alloc(), 100, WARM, 0, events)? == Some(replies));
+    Ok(())
+}
+
+#[test]
+fn a_refused_entry_overtakes_nothing(rt: HostRuntime) -> Result<(), Fail> {
+    let events = [
+        Look(1, 0),
+        Commit(1),
+        Look(0, 1),
+        Look(1, 1),
+        Commit(1),
+        Commit(0),
+    ];
+    let replies = [
+        Looked,
+        Decided(0, ONE, true),
+        Looked,
+        Looked,
+        Decided(1, -ONE, false),
+        Decided(0, -80_000, true),
+    ];
+    assert!(rt; played(rt.alloc(), 100, COLD, 6, events)? == Some(replies));
     Ok(())
 }
 
@@ -156,7 +193,7 @@ fn a_journal_of_one_entry_is_full(rt: HostRuntime) -> Result<(), Fail> {
         Strange,
         Strange,
     ];
-    assert!(rt; played(rt.alloc(), 1, 6, events)? == Some(replies));
+    assert!(rt; played(rt.alloc(), 1, WARM, 6, events)? == Some(replies));
     Ok(())
 }
 
@@ -178,7 +215,7 @@ fn events_that_cannot_come_are_strange(rt: HostRuntime) -> Result<(), Fail> {
         Looked,
         Decided(0, ONE, true),
     ];
-    assert!(rt; played(rt.alloc(), 100, 6, events)? == Some(replies));
+    assert!(rt; played(rt.alloc(), 100, WARM, 6, events)? == Some(replies));
     Ok(())
 }
 
@@ -200,6 +237,6 @@ fn a_reading_is_spent_by_its_commit(rt: HostRuntime) -> Result<(), Fail> {
         Strange,
         Looked,
     ];
-    assert!(rt; played(rt.alloc(), 100, 6, events)? == Some(replies));
+    assert!(rt; played(rt.alloc(), 100, WARM, 6, events)? == Some(replies));
     Ok(())
 }
