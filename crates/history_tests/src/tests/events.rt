@@ -1,7 +1,7 @@
 //! Events of two workers on the three units with a target and boundaries. The random seeds are the least
 //! ones whose draws are of the stated units, worked out of the words of Pcg32 by a script of their own.
-ghost use Rattle.std.specs.Prelude.{◌≡◌, IfOk};
-ghost use Rattle.mz_history.specs.Rules.{IsRules};
+ghost use Rattle.std.specs.Prelude.{◌≡◌, ◌≤◌, ◌^◌};
+ghost use Rattle.mz_history.specs.World.{WorldState};
 
 use super::rules;
 use mz_examples::build_three_units;
@@ -58,39 +58,28 @@ fn replies(problem: &Problem, rules: &Rules, mut world: World, events: [Event; 6
     ]
 }
 
-/// How a list of events is played.
-#[derive(Clone, Copy)]
-enum Played {
-    /// At a temperature at which small rises are taken.
-    Warm,
-    /// At one at which no rise is.
-    Cold,
-    /// Warm, with room for one entry.
-    One,
-}
+/// The temperature at which small rises are taken, and the one at which none is.
+const WARM: u128 = 10_000_000_000;
 
-fn rules_of(alloc: Global, played: Played) -> Result<Rules, NoMemory>
-    ensures { IfOk result IsRules }
-{
-    match played {
-        Played::Warm => rules(alloc, 100, 10_000_000_000),
-        Played::Cold => rules(alloc, 100, 1),
-        Played::One => rules(alloc, 1, 10_000_000_000),
-    }
-}
+const COLD: u128 = 1;
 
 /// The replies to six events of two seats in run 1.
-fn replies_to(
+fn played(
     alloc: Global,
-    played: Played,
+    limit: u32,
+    temperature: u128,
     seed: u64,
     events: [Event; 6],
-) -> Result<Option<[Told; 6]>, NoMemory> {
+) -> Result<Option<[Told; 6]>, NoMemory>
+    requires few { limit ≤ 10000000 }
+    requires above { 1 ≤ temperature }
+    requires below { temperature ≤ 10 ^ 29 }
+{
     let problem = build_three_units(alloc)?;
     if problem.free().is_empty() {
         return Ok(None);
     }
-    let rules = rules_of(alloc, played)?;
+    let rules = rules(alloc, limit, temperature)?;
     let world = World::open(alloc, &problem, &rules, seed, 1, 2)?;
     Ok(Some(replies(&problem, &rules, world, events)))
 }
@@ -98,163 +87,156 @@ fn replies_to(
 /// By how much the score changes where the first or the second unit alone leaves the first zone.
 const ONE: i128 = -130_000;
 
-/// How it is played and with which random seed, six events, and the replies to them.
-type Row = (Played, u64, [Event; 6], [Told; 6]);
-
-const ROWS: [Row; 7] = [
-    // Overtaken by a neighbour; the same draw is decided on the next look.
-    (
-        Played::Warm,
-        6,
-        [
-            Look(0, 0),
-            Look(1, 0),
-            Commit(1),
-            Commit(0),
-            Look(0, 1),
-            Commit(0),
-        ],
-        [
-            Looked,
-            Looked,
-            Decided(0, ONE, true),
-            Again(0),
-            Looked,
-            Decided(0, -80_000, true),
-        ],
-    ),
-    // Not overtaken by a refused entry.
-    (
-        Played::Cold,
-        6,
-        [
-            Look(1, 0),
-            Commit(1),
-            Look(0, 1),
-            Look(1, 1),
-            Commit(1),
-            Commit(0),
-        ],
-        [
-            Looked,
-            Decided(0, ONE, true),
-            Looked,
-            Looked,
-            Decided(1, -ONE, false),
-            Decided(0, -80_000, true),
-        ],
-    ),
-    // Overtaken by a move there and back.
-    (
-        Played::Warm,
-        6,
-        [
-            Look(0, 0),
-            Look(1, 0),
-            Commit(1),
-            Look(1, 1),
-            Commit(1),
-            Commit(0),
-        ],
-        [
-            Looked,
-            Looked,
-            Decided(0, ONE, true),
-            Looked,
-            Decided(1, -ONE, true),
-            Again(1),
-        ],
-    ),
-    // Overtaken by a target row alone.
-    (
-        Played::Warm,
-        0,
-        [
-            Look(0, 0),
-            Look(1, 0),
-            Commit(1),
-            Commit(0),
-            Look(0, 1),
-            Commit(0),
-        ],
-        [
-            Looked,
-            Looked,
-            Decided(0, -230_000, true),
-            Again(0),
-            Looked,
-            Decided(0, 170_000, true),
-        ],
-    ),
-    // A journal of one entry is full, and a front below what was seen is strange.
-    (
-        Played::One,
-        6,
-        [
-            Look(0, 0),
-            Look(1, 0),
-            Commit(1),
-            Commit(0),
-            Commit(0),
-            Look(0, 0),
-        ],
-        [
-            Looked,
-            Looked,
-            Decided(0, ONE, true),
-            Full,
-            Strange,
-            Strange,
-        ],
-    ),
-    // No reading, a front beyond the journal, and a seat that isn't there.
-    (
-        Played::Warm,
-        6,
-        [
-            Commit(0),
-            Look(0, 1),
-            Look(2, 0),
-            Commit(2),
-            Look(0, 0),
-            Commit(0),
-        ],
-        [
-            Strange,
-            Strange,
-            Strange,
-            Strange,
-            Looked,
-            Decided(0, ONE, true),
-        ],
-    ),
-    // A reading is spent by its commit.
-    (
-        Played::Warm,
-        6,
-        [
-            Look(0, 0),
-            Look(0, 0),
-            Commit(0),
-            Commit(0),
-            Look(0, 0),
-            Look(0, 1),
-        ],
-        [
-            Looked,
-            Looked,
-            Decided(0, ONE, true),
-            Strange,
-            Strange,
-            Looked,
-        ],
-    ),
-];
+#[test]
+fn a_neighbour_overtakes(rt: HostRuntime) -> Result<(), Fail> {
+    let events = [
+        Look(0, 0),
+        Look(1, 0),
+        Commit(1),
+        Commit(0),
+        Look(0, 1),
+        Commit(0),
+    ];
+    let replies = [
+        Looked,
+        Looked,
+        Decided(0, ONE, true),
+        Again(0),
+        Looked,
+        Decided(0, -80_000, true),
+    ];
+    assert!(rt; played(rt.alloc(), 100, WARM, 6, events)? == Some(replies));
+    Ok(())
+}
 
 #[test]
-fn events_are_answered(rt: HostRuntime) -> Result<(), Fail> {
-    for (played, seed, events, replies) in ROWS {
-        assert!(rt; replies_to(rt.alloc(), played, seed, events)? == Some(replies));
-    }
+fn a_move_there_and_back_overtakes(rt: HostRuntime) -> Result<(), Fail> {
+    let events = [
+        Look(0, 0),
+        Look(1, 0),
+        Commit(1),
+        Look(1, 1),
+        Commit(1),
+        Commit(0),
+    ];
+    let replies = [
+        Looked,
+        Looked,
+        Decided(0, ONE, true),
+        Looked,
+        Decided(1, -ONE, true),
+        Again(1),
+    ];
+    assert!(rt; played(rt.alloc(), 100, WARM, 6, events)? == Some(replies));
+    Ok(())
+}
+
+#[test]
+fn a_target_row_overtakes(rt: HostRuntime) -> Result<(), Fail> {
+    let events = [
+        Look(0, 0),
+        Look(1, 0),
+        Commit(1),
+        Commit(0),
+        Look(0, 1),
+        Commit(0),
+    ];
+    let replies = [
+        Looked,
+        Looked,
+        Decided(0, -230_000, true),
+        Again(0),
+        Looked,
+        Decided(0, 170_000, true),
+    ];
+    assert!(rt; played(rt.alloc(), 100, WARM, 0, events)? == Some(replies));
+    Ok(())
+}
+
+#[test]
+fn a_refused_entry_overtakes_nothing(rt: HostRuntime) -> Result<(), Fail> {
+    let events = [
+        Look(1, 0),
+        Commit(1),
+        Look(0, 1),
+        Look(1, 1),
+        Commit(1),
+        Commit(0),
+    ];
+    let replies = [
+        Looked,
+        Decided(0, ONE, true),
+        Looked,
+        Looked,
+        Decided(1, -ONE, false),
+        Decided(0, -80_000, true),
+    ];
+    assert!(rt; played(rt.alloc(), 100, COLD, 6, events)? == Some(replies));
+    Ok(())
+}
+
+#[test]
+fn a_journal_of_one_entry_is_full(rt: HostRuntime) -> Result<(), Fail> {
+    let events = [
+        Look(0, 0),
+        Look(1, 0),
+        Commit(1),
+        Commit(0),
+        Commit(0),
+        Look(0, 0),
+    ];
+    let replies = [
+        Looked,
+        Looked,
+        Decided(0, ONE, true),
+        Full,
+        Strange,
+        Strange,
+    ];
+    assert!(rt; played(rt.alloc(), 1, WARM, 6, events)? == Some(replies));
+    Ok(())
+}
+
+#[test]
+fn events_that_cannot_come_are_strange(rt: HostRuntime) -> Result<(), Fail> {
+    let events = [
+        Commit(0),
+        Look(0, 1),
+        Look(2, 0),
+        Commit(2),
+        Look(0, 0),
+        Commit(0),
+    ];
+    let replies = [
+        Strange,
+        Strange,
+        Strange,
+        Strange,
+        Looked,
+        Decided(0, ONE, true),
+    ];
+    assert!(rt; played(rt.alloc(), 100, WARM, 6, events)? == Some(replies));
+    Ok(())
+}
+
+#[test]
+fn a_reading_is_spent_by_its_commit(rt: HostRuntime) -> Result<(), Fail> {
+    let events = [
+        Look(0, 0),
+        Look(0, 0),
+        Commit(0),
+        Commit(0),
+        Look(0, 0),
+        Look(0, 1),
+    ];
+    let replies = [
+        Looked,
+        Looked,
+        Decided(0, ONE, true),
+        Strange,
+        Strange,
+        Looked,
+    ];
+    assert!(rt; played(rt.alloc(), 100, WARM, 6, events)? == Some(replies));
     Ok(())
 }

@@ -33,18 +33,36 @@ fn started(
 }
 
 #[test]
-fn a_share_is_drawn(rt: HostRuntime) -> Result<(), Fail> {
-    let two = build_three_units(rt.alloc())?;
-    let three = build_three_zones(rt.alloc())?;
-    for (seed, whole, half) in [
-        (1, [1, 1, 1], [0, 2, 0]),
-        (2, [0, 0, 1], [0, 0, 1]),
-        (4, [0, 1, 1], [0, 0, 2]),
-        (5, [1, 1, 0], [1, 2, 1]),
+fn no_share_starts_in_the_available_zone(rt: HostRuntime) -> Result<(), Fail> {
+    let problem = build_three_units(rt.alloc())?;
+    for seed in [1, 2, 3] {
+        let zones = started(rt.alloc(), &problem, Mic6(0), seed)?;
+        assert!(rt; zones == Some([0, 0, 0]));
+    }
+    Ok(())
+}
+
+#[test]
+fn a_whole_share_is_drawn(rt: HostRuntime) -> Result<(), Fail> {
+    let problem = build_three_units(rt.alloc())?;
+    for (seed, drawn) in [(1, [1, 1, 1]), (2, [0, 0, 1]), (3, [1, 1, 0])] {
+        let zones = started(rt.alloc(), &problem, Mic6(1_000_000), seed)?;
+        assert!(rt; zones == Some(drawn));
+    }
+    Ok(())
+}
+
+#[test]
+fn half_a_share_is_drawn_by_half(rt: HostRuntime) -> Result<(), Fail> {
+    let problem = build_three_zones(rt.alloc())?;
+    for (seed, drawn) in [
+        (1, [0, 2, 0]),
+        (2, [0, 0, 1]),
+        (4, [0, 0, 2]),
+        (5, [1, 2, 1]),
     ] {
-        assert!(rt; started(rt.alloc(), &two, Mic6(0), seed)? == Some([0, 0, 0]));
-        assert!(rt; started(rt.alloc(), &two, Mic6(1_000_000), seed)? == Some(whole));
-        assert!(rt; started(rt.alloc(), &three, Mic6(500_000), seed)? == Some(half));
+        let zones = started(rt.alloc(), &problem, Mic6(500_000), seed)?;
+        assert!(rt; zones == Some(drawn));
     }
     Ok(())
 }
