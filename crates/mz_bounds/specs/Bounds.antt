@@ -17,11 +17,13 @@ bound_rows units rows = items_of (at_most most_boundary_rows (λ earlier. bound_
 
 -- each pair of two units that rows name, the lower one first, with their added length, in order
 abbrev pub edges_of : ℕ → List PairRow → List (ℕ × ℕ × ℕ)
-edges_of units rows = pairs_below units units (λ low high. nat_lt low high && list_any (names low high) rows) (pair_sum rows)
+edges_of units rows = pairs_below units units (λ low high. nat_lt low high && list_any (names low high) rows)
+    (pair_sum rows)
 
 -- the edges, and the outer length of each unit
 abbrev pub bounds_from : ℕ → List PairRow → Bounds
-bounds_from units rows = record { edges = edges_of units rows; outer = list_below units (λ unit. pair_sum rows unit unit) }
+bounds_from units rows =
+    record { edges = edges_of units rows; outer = list_below units (λ unit. pair_sum rows unit unit) }
 
 -- the boundaries that the rows of a table give
 unfoldable pub bounds_of : List ℕ → List Row → Result Bounds RowFault

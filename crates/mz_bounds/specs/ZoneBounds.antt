@@ -25,7 +25,9 @@ unless_another another line row = (if another then Err (Repeated line) else Ok r
 
 -- a row may repeat an earlier one's cost, and no other; this is tested once the row has been read
 abbrev pub settled : RowReader PairRow → RowReader PairRow
-settled read earlier row = go_on (read earlier row) (λ item. unless_another (is_another (cost_at earlier item.0 item.1) item.2) (line_behind earlier) item)
+settled read earlier row =
+    go_on (read earlier row)
+    (λ item. unless_another (is_another (cost_at earlier item.0 item.1) item.2) (line_behind earlier) item)
 
 -- the rows of the file
 unfoldable pub zone_bound_rows : List ℕ → List Row → Result (List PairRow) RowFault
@@ -41,7 +43,8 @@ zone_bounds_of zones rows = go_on (zone_bound_rows zones rows) (λ read. Ok (zon
 
 -- the same number for two zones in both orders
 abbrev pub IsEven : ℕ → List ℕ → Type 0
-IsEven zones numbers = (first second : ℕ) → first < zones → second < zones → slice_index numbers (first * zones + second) ≡ slice_index numbers (second * zones + first)
+IsEven zones numbers = (first second : ℕ) → first < zones → second < zones
+    → slice_index numbers (first * zones + second) ≡ slice_index numbers (second * zones + first)
 
 -- a number of millionths for each two zones, the same in both orders
 pub record AreZoneBounds (zones : ℕ) (costs : List ℕ) : Type 0 where

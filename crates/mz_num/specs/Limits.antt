@@ -1,4 +1,5 @@
--- The limits of this project's profile, each once: how many things a project may have, and how great its numbers may be.
+-- The limits of this project's profile, each once: how many things a project may have, and how great its
+-- numbers may be.
 use Rattle.std.specs.Prelude.{ℕ, ◌^◌}
 
 -- the greatest cost, amount, length, rate, level, weight, and sum of such: in their ten-thousandths or millionths

@@ -60,11 +60,15 @@ decimals_of text = length (after_first is_point text)
 abbrev pub number_of : Bool → ℕ → Option ℕ → Option PowerOfTen → Option WrittenNumber
 number_of minus decimals None power = None
 number_of minus decimals (Some mantissa) None = None
-number_of minus decimals (Some mantissa) (Some power) = Some (record { negative = minus; mantissa = mantissa; raised = power.raised; lowered = decimals + power.lowered })
+number_of minus decimals (Some mantissa) (Some power) =
+    Some (record { negative = minus; mantissa = mantissa; raised = power.raised; lowered = decimals + power.lowered })
 
 -- a mantissa and an exponent without the sign before them
 abbrev pub number_behind : Bool → List ℕ → Option WrittenNumber
-number_behind minus text = let mantissa = before_first is_mark text in number_of minus (decimals_of mantissa) (mantissa_of mantissa) (exponent_of (drop (position_or_len is_mark text) text))
+number_behind minus text =
+    let mantissa = before_first is_mark text in
+    number_of minus (decimals_of mantissa) (mantissa_of mantissa)
+    (exponent_of (drop (position_or_len is_mark text) text))
 
 -- the number that a text writes: a sign, a mantissa and an exponent
 unfoldable pub number_in : List ℕ → Option WrittenNumber

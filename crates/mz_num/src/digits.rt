@@ -19,7 +19,8 @@ pub(crate) fn read_digits(most: usize, text: &[u8]) -> Option<u128>
 /// Goes on with a number by more digits; none where another byte stands among them.
 pub(crate) fn more_digits(before: u128, text: &[u8]) -> Option<u128>
     requires { (before + 1) * 10 ^ length text.now ≤ 10 ^ 38 }
-    ensures number { result ≡ (if all_ascii_digits text.now then Some (digits_value_after 10 before text.now) else None) }
+    ensures number { result ≡
+        (if all_ascii_digits text.now then Some (digits_value_after 10 before text.now) else None) }
     ensures small { IfSome result (λ n. n + 1 ≤ (before + 1) * 10 ^ length text.now) }
 {
     let mut number = before;

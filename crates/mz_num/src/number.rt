@@ -22,9 +22,11 @@ impl Model for Number {
 
     ghost Value = { WrittenNumber };
 
-    ghost view = { λ n. record { negative = n.negative; mantissa = n.mantissa; raised = n.raised; lowered = n.lowered } };
+    ghost view = { λ n.
+        record { negative = n.negative; mantissa = n.mantissa; raised = n.raised; lowered = n.lowered } };
 
-    ghost inverse = { λ n. record { negative = n.negative; mantissa = n.mantissa; raised = n.raised; lowered = n.lowered } };
+    ghost inverse = { λ n.
+        record { negative = n.negative; mantissa = n.mantissa; raised = n.raised; lowered = n.lowered } };
 }
 
 /// A power of ten: by how many places it raises a number, and by how many it lowers it.

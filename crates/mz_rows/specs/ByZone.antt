@@ -22,15 +22,19 @@ zone_number_place things row = row.0 * things + row.1
 
 -- the rows of the file: no pair twice
 unfoldable pub zone_numbers : List ℕ → List ℕ → List Row → Result (List (ℕ × ℕ × ℕ)) RowFault
-zone_numbers zones things rows = items_of (once (zone_number_place (length things)) (λ earlier. zone_number_in zones things (line_behind earlier))) rows
+zone_numbers zones things rows =
+    items_of (once (zone_number_place (length things))
+    (λ earlier. zone_number_in zones things (line_behind earlier))) rows
 
 -- the number of each pair at its place, and 0 for one that isn't listed
 abbrev pub numbers_by_zone : ℕ → ℕ → List (ℕ × ℕ × ℕ) → List ℕ
-numbers_by_zone zones things listed = values_below (zones * things) (zone_number_place things) (λ row. row.2) (λ place. 0) listed
+numbers_by_zone zones things listed = values_below (zones * things) (zone_number_place things) (λ row. row.2)
+    (λ place. 0) listed
 
 -- the numbers that a table gives, or its first fault
 unfoldable pub by_zone_of : List ℕ → List ℕ → List Row → Result (List ℕ) RowFault
-by_zone_of zones things rows = go_on (zone_numbers zones things rows) (λ listed. Ok (numbers_by_zone (length zones) (length things) listed))
+by_zone_of zones things rows =
+    go_on (zone_numbers zones things rows) (λ listed. Ok (numbers_by_zone (length zones) (length things) listed))
 
 -- a number of millionths for each pair
 pub record AreByZone (zones things : ℕ) (numbers : List ℕ) : Type 0 where

@@ -9,4 +9,5 @@ value_at key value items place = option_map value (find (λ item. key item == pl
 
 -- the value of each place below n, and where no row gives one, what stands there by default
 abbrev pub values_below : {Item : Type 0} → ℕ → (Item → ℕ) → (Item → ℕ) → (ℕ → ℕ) → List Item → List ℕ
-values_below n key value default items = list_below n (λ place. unwrap_or (value_at key value items place) (default place))
+values_below n key value default items =
+    list_below n (λ place. unwrap_or (value_at key value items place) (default place))

@@ -8,7 +8,8 @@ pair_if test number first second = (if test first second then (first, second, nu
 
 -- the pairs that pass the test, of a first place below n and a second one below m, each with its number, in order
 unfoldable pub pairs_below : ℕ → ℕ → (ℕ → ℕ → Bool) → (ℕ → ℕ → ℕ) → List (ℕ × ℕ × ℕ)
-pairs_below n m test number = flat_map (λ first. flat_map (pair_if test number first) (range_with_len 0 m)) (range_with_len 0 n)
+pairs_below n m test number = flat_map (λ first. flat_map (pair_if test number first) (range_with_len 0 m))
+    (range_with_len 0 n)
 
 -- the row, of two places and a number, names these two places
 abbrev pub names : ℕ → ℕ → ℕ × ℕ × ℕ → Bool

@@ -21,7 +21,8 @@ line_behind earlier = line_of (length earlier)
 -- the items of rows that stand behind earlier ones
 abbrev pub items_behind : {Item : Type 0} → RowReader Item → List Item → List Row → Result (List Item) RowFault
 items_behind read earlier [] = Ok earlier
-items_behind read earlier (row ∷ rows) = go_on (read earlier row) (λ item. items_behind read (earlier ++ item ∷ []) rows)
+items_behind read earlier (row ∷ rows) =
+    go_on (read earlier row) (λ item. items_behind read (earlier ++ item ∷ []) rows)
 
 -- the items of all rows, or the fault of the first row that has one
 unfoldable pub items_of : {Item : Type 0} → RowReader Item → List Row → Result (List Item) RowFault
@@ -29,7 +30,8 @@ items_of read rows = items_behind read [] rows
 
 -- a row is one too many where so many stand before it; this is tested before the row is read
 abbrev pub at_most : {Item : Type 0} → ℕ → RowReader Item → RowReader Item
-at_most limit read earlier row = (if nat_lt (length earlier) limit then read earlier row else Err (TooMany (line_behind earlier)))
+at_most limit read earlier row =
+    (if nat_lt (length earlier) limit then read earlier row else Err (TooMany (line_behind earlier)))
 
 -- the item, unless it is repeated
 abbrev pub unless_earlier : {Item : Type 0} → Bool → ℕ → Item → Result Item RowFault
@@ -41,4 +43,5 @@ new_id ids id line = unless_earlier (has_id ids id) line tt
 
 -- a row is repeated where an earlier one has its key; this is tested once the row has been read
 abbrev pub once : {Item : Type 0} → (Item → ℕ) → RowReader Item → RowReader Item
-once key read earlier row = go_on (read earlier row) (λ item. unless_earlier (has_id (map key earlier) (key item)) (line_behind earlier) item)
+once key read earlier row =
+    go_on (read earlier row) (λ item. unless_earlier (has_id (map key earlier) (key item)) (line_behind earlier) item)

@@ -2,5 +2,4 @@ mod AnnealLemmas
 mod EndingLemmas
 mod PreparedLemmas
 mod RunLemmas
-mod TextLemmas
 mod WorkLemmas

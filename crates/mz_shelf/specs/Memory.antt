@@ -29,14 +29,17 @@ pub record Failing : Type 0 where
 
 abbrev pub held_code : Coded Held
 held_code =
-    code_by (Files × (List ℕ × (List (List ℕ) × (ℕ × ℕ)))) (coded× files_code (coded× (coded_list coded_ℕ) (coded× (coded_list (coded_list coded_ℕ)) (coded× coded_ℕ coded_ℕ))))
+    code_by (Files × (List ℕ × (List (List ℕ) × (ℕ × ℕ))))
+    (coded× files_code (coded× (coded_list coded_ℕ)
+    (coded× (coded_list (coded_list coded_ℕ)) (coded× coded_ℕ coded_ℕ))))
     (λ h. (h.files, (h.said, (h.reads, (h.misses, h.overs)))))
     (λ p. record { files = p.0; said = p.1.0; reads = p.1.1.0; misses = p.1.1.1.0; overs = p.1.1.1.1 })
     (λ _. refl)
 
 abbrev pub failing_code : Coded Failing
 failing_code =
-    code_by (Held × (ℕ × (ℕ × (List ℕ × ℕ)))) (coded× held_code (coded× coded_ℕ (coded× coded_ℕ (coded× (coded_list coded_ℕ) coded_ℕ))))
+    code_by (Held × (ℕ × (ℕ × (List ℕ × ℕ))))
+    (coded× held_code (coded× coded_ℕ (coded× coded_ℕ (coded× (coded_list coded_ℕ) coded_ℕ))))
     (λ f. (f.held, (f.faults, (f.calls, (f.fails, f.cut)))))
     (λ p. record { held = p.0; faults = p.1.0; calls = p.1.1.0; fails = p.1.1.1.0; cut = p.1.1.1.1 })
     (λ _. refl)

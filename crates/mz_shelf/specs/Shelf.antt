@@ -31,7 +31,8 @@ pub record FoundLongFile (name : List ℕ) (old new : State) : Type 0 where
   pub contents : new.contents ≡ old.contents
   pub counts : OneOver old.counts new.counts
   pub reads : new.reads ≡ reads_after (name ∷ []) old.reads
-  pub told : IfSome old.contents.files (λ (files : Files). IsSomeAnd (get files name) (λ bytes. most_file_bytes < length bytes))
+  pub told : IfSome old.contents.files
+      (λ (files : Files). IsSomeAnd (get files name) (λ bytes. most_file_bytes < length bytes))
 
 -- why a read gave nothing; after want of memory nothing changed
 abbrev pub ReadStopped : List ℕ → State → State → ShelfErr → Type 0

@@ -64,7 +64,8 @@ impl MemShelf {
 
     /// Puts a file on the shelf, in the place of one that has the name. It is no numbered call.
     pub fn put(&mut self, alloc: Global, name: &str, bytes: &[u8]) -> Result<(), NoMemory>
-        ensures ok { OnOk result (self.new ≡ record self.old { held = held_after (Write name.now bytes.now) self.old.held }) }
+        ensures ok { OnOk result
+            (self.new ≡ record self.old { held = held_after (Write name.now bytes.now) self.old.held }) }
         ensures err { OnErr result (self.new ≡ self.old) }
     {
         self.shelf.put(alloc, name, bytes)

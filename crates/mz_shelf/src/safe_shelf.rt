@@ -42,7 +42,8 @@ impl Model for SafeShelf {
 impl SafeShelf {
     /// A shelf without files, to which nothing was said.
     pub fn new(alloc: Global) -> Result<SafeShelf, NoMemory>
-        ensures { IfOk result (λ shelf. shelf ≡ record { files = empty; said = []; reads = []; misses = 0; overs = 0 }) }
+        ensures { IfOk result
+            (λ shelf. shelf ≡ record { files = empty; said = []; reads = []; misses = 0; overs = 0 }) }
     {
         Ok(SafeShelf {
             files: FileMap::new(alloc),

@@ -1,4 +1,5 @@
--- How a table keeps its rows: the fields of all wanted columns one after another, an empty one where the column isn't there.
+-- How a table keeps its rows: the fields of all wanted columns one after another, an empty one where the
+-- column isn't there.
 use Rattle.std.specs.Prelude.{ℕ, zero, suc, List, [], ◌∷◌, length, drop, get_or, Option, Some, None}
 use Rattle.mz_num.specs.Blank.{trimmed}
 use Rattle.mz_tables.specs.Table.{Row}

@@ -37,7 +37,8 @@ unless_uneven (Some place) rows = Err (Uneven (line_of place))
 
 -- the rows of the data records in these columns, or the first uneven record
 unfoldable pub table_rows : ℕ → List (Option ℕ) → List (List (List ℕ)) → Result (List Row) TableFault
-table_rows width columns data_records = unless_uneven (position (is_uneven width) data_records) (map (row_of columns) data_records)
+table_rows width columns data_records = unless_uneven (position (is_uneven width) data_records)
+    (map (row_of columns) data_records)
 
 -- the answer, unless a needed column is missing
 abbrev pub unless_missing : Option ℕ → Result (List Row) TableFault → Result (List Row) TableFault
@@ -47,7 +48,8 @@ unless_missing (Some place) answer = Err (ColumnMissing place)
 -- what records read as: no record, the first needed column that isn't there, the first uneven record, or the rows
 unfoldable pub made_of : List (List (List ℕ)) → List Want → Result (List Row) TableFault
 made_of [] wants = Err NoHeader
-made_of (header ∷ data_records) wants = unless_missing (position (is_missing header) wants) (table_rows (length header) (columns_of header wants) data_records)
+made_of (header ∷ data_records) wants = unless_missing (position (is_missing header) wants)
+    (table_rows (length header) (columns_of header wants) data_records)
 
 -- how `csv` is to read these bytes: its defaults with the delimiter of the table
 unfoldable pub table_config : List ℕ → Config

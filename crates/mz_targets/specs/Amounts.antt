@@ -23,15 +23,18 @@ amount_in units features line row =
 
 -- the rows of the file: at most 5,000,000
 unfoldable pub amount_rows : List ℕ → List ℕ → List Row → Result (List Amount) RowFault
-amount_rows units features rows = items_of (at_most most_amount_rows (λ earlier. amount_in units features (line_behind earlier))) rows
+amount_rows units features rows =
+    items_of (at_most most_amount_rows (λ earlier. amount_in units features (line_behind earlier))) rows
 
 -- the positive sum of the rows of each pair of a unit and a feature, in order
 abbrev pub sums_of : ℕ → ℕ → List Amount → List (ℕ × ℕ × ℕ)
-sums_of units features rows = pairs_below units features (λ unit feature. nat_lt 0 (pair_sum rows unit feature)) (pair_sum rows)
+sums_of units features rows = pairs_below units features (λ unit feature. nat_lt 0 (pair_sum rows unit feature))
+    (pair_sum rows)
 
 -- the sums of the rows that a table gives
 unfoldable pub amounts_of : List ℕ → List ℕ → List Row → Result (List (ℕ × ℕ × ℕ)) RowFault
-amounts_of units features rows = go_on (amount_rows units features rows) (λ read. Ok (sums_of (length units) (length features) read))
+amounts_of units features rows =
+    go_on (amount_rows units features rows) (λ read. Ok (sums_of (length units) (length features) read))
 
 -- places in range and a number within its limit; a place is below 2 ^ 32
 pub record IsAmountRow (units features : ℕ) (row : ℕ × ℕ × ℕ) : Type 0 where

@@ -40,7 +40,8 @@ feature_row_in line row =
 
 -- the rows of the file: at most 10,000, and no id twice
 unfoldable pub feature_rows : List Row → Result (List FeatureRow) RowFault
-feature_rows rows = items_of (at_most most_features (once (λ row. row.0) (λ earlier. feature_row_in (line_behind earlier)))) rows
+feature_rows rows = items_of
+    (at_most most_features (once (λ row. row.0) (λ earlier. feature_row_in (line_behind earlier)))) rows
 
 abbrev pub ids_of : List FeatureRow → List ℕ
 ids_of rows = map (λ row. row.0) rows
@@ -53,7 +54,8 @@ numbers_of rows = map (λ row. row.2) rows
 
 -- the features that a table gives, or its first fault
 unfoldable pub features_of : List Row → Result FeatureList RowFault
-features_of rows = go_on (feature_rows rows) (λ read. Ok (record { ids = ids_of read; names = names_of read; rows = numbers_of read }))
+features_of rows = go_on (feature_rows rows)
+    (λ read. Ok (record { ids = ids_of read; names = names_of read; rows = numbers_of read }))
 
 -- numbers within their limit
 pub record IsFeature (feature : Feature) : Type 0 where

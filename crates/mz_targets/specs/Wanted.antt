@@ -17,10 +17,12 @@ feature_columns =
     ∷ []
 
 abbrev pub amount_columns : List Want
-amount_columns = want (codes "featureid") (codes "species") true ∷ want (codes "puid") (codes "pu") true ∷ want (codes "amount") [] true ∷ []
+amount_columns = want (codes "featureid") (codes "species") true ∷ want (codes "puid") (codes "pu") true
+    ∷ want (codes "amount") [] true ∷ []
 
 abbrev pub contrib_columns : List Want
-contrib_columns = want (codes "zoneid") [] true ∷ want (codes "featureid") [] true ∷ want (codes "fraction") [] true ∷ []
+contrib_columns = want (codes "zoneid") [] true ∷ want (codes "featureid") [] true ∷ want (codes "fraction") [] true
+    ∷ []
 
 abbrev pub zone_target_columns : List Want
 zone_target_columns =

@@ -27,7 +27,8 @@ value_in proportion line row = (if proportion then mic6_in line row 2 else ten4_
 abbrev pub taken_type : ℕ → ℕ → Result ℕ RowFault
 taken_type line kind = (if nat_lt 1 kind then Err (LeftOut line 3) else Ok kind)
 
--- a row's zone and feature by place, its target and its type; the target's scale follows the type, and its fault comes first
+-- a row's zone and feature by place, its target and its type; the target's scale follows the type, and its
+-- fault comes first
 abbrev pub zone_target_in : List ℕ → List ℕ → ℕ → Row → Result ZoneTarget RowFault
 zone_target_in zones features line row =
     go_on (place_in zones line row 0) (λ zone.
@@ -42,7 +43,9 @@ target_place features row = row.zone * features + row.feature
 
 -- the zone targets that a table gives, at most 90,000 and no pair twice, or its first fault
 unfoldable pub zone_targets_of : List ℕ → List ℕ → List Row → Result (List ZoneTarget) RowFault
-zone_targets_of zones features rows = items_of (at_most most_zone_target_rows (once (target_place (length features)) (λ earlier. zone_target_in zones features (line_behind earlier)))) rows
+zone_targets_of zones features rows =
+    items_of (at_most most_zone_target_rows
+    (once (target_place (length features)) (λ earlier. zone_target_in zones features (line_behind earlier)))) rows
 
 -- places in range, a number within its limit, a type that is taken
 pub record IsZoneTarget (zones features : ℕ) (row : ZoneTarget) : Type 0 where

@@ -30,7 +30,8 @@ pub record NoteState (E S : Type 0) : Type 0 where
   pub lock : LockId S
   pub seen : List E
 
--- the list begins with what the chair has seen, and what was added is not the chair's; it begins with what joins brought
+-- the list begins with what the chair has seen, and what was added is not the chair's; it begins with what
+-- joins brought
 pub record Learns {E S : Type 0} (owner : E → ℕ) (chair : ChairState E S) (list : List E) : Type 0 where
   pub seen : GrewByOthers owner chair.number chair.seen list
   pub own : GrewByOthers owner chair.number chair.own list
@@ -38,10 +39,20 @@ pub record Learns {E S : Type 0} (owner : E → ℕ) (chair : ChairState E S) (l
 
 -- a chair at the opening: it has seen the value's list, and holds nothing
 abbrev pub fresh_chair : {E S : Type 0} → LockId S → List E → ℕ → ChairState E S
-fresh_chair lock list number = record { lock = lock; number = number; seen = list; own = list; told = []; taken = None; tries = 0; found = 0 }
+fresh_chair lock list number = record {
+  lock = lock;
+  number = number;
+  seen = list;
+  own = list;
+  told = [];
+  taken = None;
+  tries = 0;
+  found = 0;
+}
 
 -- so many chairs, numbered in order, as at the opening
-pub record AreFresh {E S : Type 0} (lock : LockId S) (list : List E) (seats : ℕ) (chairs : List (ChairState E S)) : Type 0 where
+pub record AreFresh {E S : Type 0} (lock : LockId S) (list : List E) (seats : ℕ)
+    (chairs : List (ChairState E S)) : Type 0 where
   pub count : length chairs ≡ seats
   pub each : (number : ℕ) → number < seats → slice_get chairs number ≡ Some (fresh_chair lock list number)
 
@@ -50,7 +61,8 @@ abbrev pub with_turn : {E S : Type 0} → ChairState E S → List E → ChairSta
 with_turn chair list = record chair { seen = list; own = list; told = []; taken = Some list }
 
 -- what a take gives: the value has the chair's setting, and its list goes on from what the chair knew
-pub record Takes {T E S : Type 0} (entries : T → List E) (owner : E → ℕ) (setting : T → S) (chair : ChairState E S) (value : T) : Type 0 where
+pub record Takes {T E S : Type 0} (entries : T → List E) (owner : E → ℕ) (setting : T → S) (chair : ChairState E S)
+    (value : T) : Type 0 where
   pub setting_is : chair.lock.setting ≡ Some (setting value)
   pub learns : Learns owner chair (entries value)
 
@@ -63,7 +75,8 @@ pub record FoundAnother {E S : Type 0} (chair : ChairState E S) (word : ℕ) : T
 
 -- what was found changes only with a failed try, and then the last of these found another chair's turn
 abbrev pub FailedTries : {E S : Type 0} → ChairState E S → ChairState E S → Type 0
-FailedTries old new = ((new.tries ≡ old.tries) × (new.found ≡ old.found)) ⊎ ((old.tries < new.tries) × FoundAnother old new.found)
+FailedTries old new = ((new.tries ≡ old.tries) × (new.found ≡ old.found))
+    ⊎ ((old.tries < new.tries) × FoundAnother old new.found)
 
 -- a take after some failed tries: the chair holds the turn
 pub record TookTurn {E S : Type 0} (old new : ChairState E S) (list : List E) : Type 0 where
@@ -101,4 +114,5 @@ joined chair note = record chair { seen = longer chair.seen note.seen; told = no
 -- all chairs of the lock, none of which holds the turn
 pub record AreAllOf {E S : Type 0} (lock : LockId S) (chairs : List (ChairState E S)) : Type 0 where
   pub here : All (λ chair. (chair.lock ≡ lock) × (chair.taken ≡ None)) chairs
-  pub every : (number : ℕ) → number < lock.seats → (chair : ChairState E S) × Contains chairs chair × (chair.number ≡ number)
+  pub every : (number : ℕ) → number < lock.seats → (chair : ChairState E S) × Contains chairs chair
+      × (chair.number ≡ number)

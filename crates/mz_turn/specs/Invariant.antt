@@ -1,4 +1,5 @@
--- The lock's invariant, which holds between any two steps. The words are the lock word and the count word, and one slot holds the value.
+-- The lock's invariant, which holds between any two steps. The words are the lock word and the count word,
+-- and one slot holds the value.
 use Rattle.std.specs.Prelude.{◌≡◌, ◌≢◌, ◌+◌, ◌<◌, ◌≤◌, ◌⊎◌, ℕ, List, [], ◌∷◌, ◌++◌, length, Option, Some}
 use Rattle.std.specs.List.{All}
 use mathlib.Core.Option.{some, none}
@@ -50,11 +51,13 @@ module _ {T E S : Type 0} (entries : T → List E) (owner : E → ℕ) (setting_
     pub owners : All (λ entry. owner entry < seats) added
     pub fits : (i : ℕ) (v : View E S) → get_elem? s.views i ≡ some v → Fits owner setting seats word list v
     -- each chair's number is kept by exactly one view
-    pub once : (n i j : ℕ) (v w : View E S) → get_elem? s.views i ≡ some v → get_elem? s.views j ≡ some w → Keeps n v.kept → Keeps n w.kept → i ≡ j
+    pub once : (n i j : ℕ) (v w : View E S) → get_elem? s.views i ≡ some v → get_elem? s.views j ≡ some w
+        → Keeps n v.kept → Keeps n w.kept → i ≡ j
     pub every : (n : ℕ) → n < seats → (i : ℕ) × ((v : View E S) × (get_elem? s.views i ≡ some v) × Keeps n v.kept)
     -- the value is at home where no view holds the turn, and else a view has it
     pub free : word ≡ 0 → IsHome setting list s.homes
-    pub held : word ≢ 0 → (s.homes ≡ none ∷ []) × ((i : ℕ) × ((v : View E S) × (get_elem? s.views i ≡ some v) × ((taken : List E) × (v.taken ≡ Some taken))))
+    pub held : word ≢ 0 → (s.homes ≡ none ∷ [])
+        × ((i : ℕ) × ((v : View E S) × (get_elem? s.views i ≡ some v) × ((taken : List E) × (v.taken ≡ Some taken))))
 
 -- the view of a chair, which keeps its own number alone
 pub record IsChairView {E S : Type 0} (v : View E S) : Type 0 where

@@ -12,7 +12,16 @@ lock_of table seats setting = record { table = table; seats = seats; setting = s
 
 module _ {E S : Type 0} where
   abbrev pub chair_of : TableId → View E S → ChairState E S
-  chair_of table v = record { lock = lock_of table v.seats v.setting; number = v.number; seen = v.seen; own = own_of v.kept; told = v.told; taken = v.taken; tries = v.tries; found = v.found }
+  chair_of table v = record {
+    lock = lock_of table v.seats v.setting;
+    number = v.number;
+    seen = v.seen;
+    own = own_of v.kept;
+    told = v.told;
+    taken = v.taken;
+    tries = v.tries;
+    found = v.found;
+  }
 
   abbrev pub note_of : TableId → View E S → NoteState E S
   note_of table v = record { lock = lock_of table v.seats v.setting; seen = v.seen }

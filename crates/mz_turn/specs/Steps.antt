@@ -44,11 +44,13 @@ module _ {T E S : Type 0} (entries : T → List E) (owner : E → ℕ) (setting 
   measured st m found m' = (m' ≡ m) × ((taken : List E) → m.0.taken ≡ Some taken → found ≡ length taken)
 
   abbrev pub counted : Tells
-  counted st m found m' = (m' ≡ (counted_view m.0, m.1)) × (length m.0.seen ≤ found) × Teaches owner m.0 m.0.seen × ((taken : List E) → m.0.taken ≡ Some taken → (m.0.seen ≡ taken) × (found ≡ length taken))
+  counted st m found m' = (m' ≡ (counted_view m.0, m.1)) × (length m.0.seen ≤ found) × Teaches owner m.0 m.0.seen
+      × ((taken : List E) → m.0.taken ≡ Some taken → (m.0.seen ≡ taken) × (found ≡ length taken))
 
   -- the value has come home to the held slot, with one entry more
   abbrev pub appended : Tells
-  appended st m found m' = (value : T) → m.1 ≡ (0, Some value) ∷ [] → (m' ≡ (appended_view m.0 (entries value), m.1)) × (m.0.taken ≡ Some m.0.seen)
+  appended st m found m' = (value : T) → m.1 ≡ (0, Some value) ∷ []
+      → (m' ≡ (appended_view m.0 (entries value), m.1)) × (m.0.taken ≡ Some m.0.seen)
 
   abbrev pub released : Tells
   released st m found m' = (m' ≡ (released_view m.0, rest m.1)) × (m.0.taken ≡ Some m.0.seen)

@@ -22,4 +22,5 @@ module _ {T E S : Type 0} (entries : T → List E) where
 
   abbrev pub Appends : Bool → Me (Option T) (View E S) → Me (Option T) (View E S) → Type 0
   Appends false me me' = me' ≡ me
-  Appends true me me' = (value : T) → me.1 ≡ (0, Some value) ∷ [] → (me' ≡ (appended_view me.0 (entries value), me.1)) × (me.0.taken ≡ Some me.0.seen)
+  Appends true me me' = (value : T) → me.1 ≡ (0, Some value) ∷ []
+      → (me' ≡ (appended_view me.0 (entries value), me.1)) × (me.0.taken ≡ Some me.0.seen)

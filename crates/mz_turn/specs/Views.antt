@@ -27,10 +27,30 @@ module _ {E : Type 0} where
 module _ {E S : Type 0} where
   -- at the opening the first view keeps every number
   abbrev pub first_view : List E → S → ℕ → View E S
-  first_view list setting seats = record { number = 0; seats = seats; setting = Some setting; seen = list; kept = kept_from 0 seats list; told = []; taken = None; tries = 0; found = 0 }
+  first_view list setting seats = record {
+    number = 0;
+    seats = seats;
+    setting = Some setting;
+    seen = list;
+    kept = kept_from 0 seats list;
+    told = [];
+    taken = None;
+    tries = 0;
+    found = 0;
+  }
 
   abbrev pub spent_view : View E S
-  spent_view = record { number = 0; seats = 0; setting = None; seen = []; kept = []; told = []; taken = None; tries = 0; found = 0 }
+  spent_view = record {
+    number = 0;
+    seats = 0;
+    setting = None;
+    seen = [];
+    kept = [];
+    told = [];
+    taken = None;
+    tries = 0;
+    found = 0;
+  }
 
   -- the whole list was seen, under the chair's number too, and the turn is held
   abbrev pub taken_view : View E S → List E → View E S
@@ -55,7 +75,11 @@ module _ {E S : Type 0} where
 
   -- the longer list, with both told, and every number of both
   abbrev pub joined_view : View E S → View E S → View E S
-  joined_view v w = record v { seen = longer v.seen w.seen; kept = v.kept ++ w.kept; told = w.seen ∷ v.seen ∷ (v.told ++ w.told) }
+  joined_view v w = record v {
+    seen = longer v.seen w.seen;
+    kept = v.kept ++ w.kept;
+    told = w.seen ∷ v.seen ∷ (v.told ++ w.told);
+  }
 
   -- one number is given over
   abbrev pub dealing_view : View E S → View E S

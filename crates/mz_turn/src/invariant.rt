@@ -22,7 +22,8 @@ impl<T: Story> TableRule<Option<T>, View<T::Entry, T::Setting>, Opening<T>> for 
     ghost use Rattle.mz_turn.specs.Invariant.{LockHolds};
     ghost use Rattle.mz_turn.specs.Views.{first_view};
 
-    ghost holds = { λ key. LockHolds T.entries T.owner T.setting (T.entries key.value.value) (T.setting key.value.value) key.seats };
+    ghost holds = { λ key. LockHolds T.entries T.owner T.setting (T.entries key.value.value)
+        (T.setting key.value.value) key.seats };
 
     ghost first = { λ key. first_view (T.entries key.value.value) (T.setting key.value.value) key.seats };
 }

@@ -30,7 +30,8 @@ impl<T: Story + Drop> Model for TurnLock<T> {
 
     ghost use Rattle.mz_turn.specs.Places.{lock_of};
 
-    ghost view = { λ l. lock_of l.table.shared.table_id l.table.shared.key.seats (Some (T.setting l.table.shared.key.value.value)) };
+    ghost view = { λ l. lock_of l.table.shared.table_id l.table.shared.key.seats
+        (Some (T.setting l.table.shared.key.value.value)) };
 
     ghost invariant = { λ l. (l.table.shared.table_id.words ≡ 2) × (l.table.shared.table_id.slots ≡ 1) };
 }
@@ -63,7 +64,8 @@ impl<T: Story + Send + Drop> TurnLock<T> {
         Ok((lock, chairs))
     }
 
-    /// The value, once all chairs are back. Its list goes on from what each chair has seen, with no entry of that chair.
+    /// The value, once all chairs are back. Its list goes on from what each chair has seen, with no entry
+    /// of that chair.
     pub fn close(self, chairs: Vec<Chair<T>>) -> T
         requires { AreAllOf self chairs.items }
         ensures setting { self.setting ≡ Some (T.setting result) }

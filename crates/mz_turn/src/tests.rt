@@ -47,7 +47,9 @@ fn write_all<R: Threads + Wait + Sync>(
 ) -> Result<Vec<Chair<Log>>, NoMemory>
     requires { All (λ chair. (chair.lock ≡ lock.now) × (chair.taken ≡ None)) chairs.items }
     ensures len { IfOk result (λ back. vec_len back ≡ vec_len chairs) }
-    ensures each { IfOk result (λ back. (k : ℕ) (d : _) → k < vec_len chairs → ((slice_index_or back.items k d).lock ≡ lock.now) × ((slice_index_or back.items k d).taken ≡ None) × ((slice_index_or back.items k d).number ≡ (slice_index_or chairs.items k d).number)) }
+    ensures each { IfOk result (λ back. (k : ℕ) (d : _) → k < vec_len chairs
+        → ((slice_index_or back.items k d).lock ≡ lock.now) × ((slice_index_or back.items k d).taken ≡ None)
+        × ((slice_index_or back.items k d).number ≡ (slice_index_or chairs.items k d).number)) }
 {
     let back = thread::map_vec(
         rt,
@@ -70,7 +72,8 @@ fn written_by_eight<R: Threads + Wait + Sync>(rt: &R, alloc: Global) -> Result<L
 /// The two chairs of a lock, in their order.
 fn two_chairs(lock: &TurnLock<Log>, mut chairs: Vec<Chair<Log>>) -> Option<(Chair<Log>, Chair<Log>)>
     requires { (list : List Line) × AreFresh lock.now list 2 chairs.items }
-    ensures { IfSome result (λ two. (two.0.lock ≡ lock.now) × (two.0.taken ≡ None) × (two.1.lock ≡ lock.now) × (two.1.taken ≡ None)) }
+    ensures { IfSome result (λ two. (two.0.lock ≡ lock.now) × (two.0.taken ≡ None) × (two.1.lock ≡ lock.now)
+        × (two.1.taken ≡ None)) }
 {
     let _ = lock;
     let second = chairs.pop()?;

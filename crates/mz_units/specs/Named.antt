@@ -23,7 +23,8 @@ named_in line row = go_on (id_in line row 0) (λ id. Ok (id, text_in row 1))
 
 -- the rows of such a file: at most 60, and no id twice
 unfoldable pub named_rows : List Row → Result (List Named) RowFault
-named_rows rows = items_of (at_most most_zones (once (λ named. named.0) (λ earlier. named_in (line_behind earlier)))) rows
+named_rows rows = items_of
+    (at_most most_zones (once (λ named. named.0) (λ earlier. named_in (line_behind earlier)))) rows
 
 abbrev pub ids_of : List Named → List ℕ
 ids_of named = map (λ row. row.0) named

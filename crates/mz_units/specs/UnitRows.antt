@@ -17,7 +17,8 @@ UnitRow = ℕ × List ℕ
 abbrev pub costs_in : ℕ → ℕ → List (Option (List ℕ)) → Result (List ℕ) RowFault
 costs_in line column [] = Ok []
 costs_in line column (field ∷ fields) =
-    go_on (number_at line column (ten4_of (text_of field))) (λ cost. go_on (costs_in line (column + 1) fields) (λ costs. Ok (cost ∷ costs)))
+    go_on (number_at line column (ten4_of (text_of field)))
+    (λ cost. go_on (costs_in line (column + 1) fields) (λ costs. Ok (cost ∷ costs)))
 
 -- a unit's id and, in the columns behind it, its costs
 abbrev pub unit_in : ℕ → Row → Result UnitRow RowFault

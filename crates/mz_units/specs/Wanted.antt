@@ -18,7 +18,8 @@ abbrev pub unit_columns : List (List ℕ) → List Want
 unit_columns names = unit_id_columns ++ map (λ name. want name [] true) names
 
 abbrev pub zone_cost_columns : List Want
-zone_cost_columns = want (codes "zoneid") [] true ∷ want (codes "costid") [] true ∷ want (codes "multiplier") [] true ∷ []
+zone_cost_columns = want (codes "zoneid") [] true ∷ want (codes "costid") [] true
+    ∷ want (codes "multiplier") [] true ∷ []
 
 -- the columns of zone sets and of locks
 abbrev pub unit_zone_columns : List Want

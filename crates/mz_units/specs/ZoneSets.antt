@@ -21,12 +21,14 @@ unit_zone_in units zones line row =
 
 -- the rows of the file: at most 6,000,000
 unfoldable pub zone_set_rows : List ℕ → List ℕ → List Row → Result (List UnitZone) RowFault
-zone_set_rows units zones rows = items_of (at_most most_zone_set_rows (λ earlier. unit_zone_in units zones (line_behind earlier))) rows
+zone_set_rows units zones rows =
+    items_of (at_most most_zone_set_rows (λ earlier. unit_zone_in units zones (line_behind earlier))) rows
 
 -- the set of the zones that rows list for a unit
 abbrev pub listed_zones : List UnitZone → ℕ → ℕ
 listed_zones [] unit = 0
-listed_zones (row ∷ rows) unit = (if row.0 == unit then bit_or (2 ^ row.1) (listed_zones rows unit) else listed_zones rows unit)
+listed_zones (row ∷ rows) unit =
+    (if row.0 == unit then bit_or (2 ^ row.1) (listed_zones rows unit) else listed_zones rows unit)
 
 -- the zones of a unit: the listed ones, and every zone where no row lists one
 abbrev pub zone_set : ℕ → List UnitZone → ℕ → ℕ
@@ -37,4 +39,5 @@ zone_sets units zones rows = list_below units (zone_set zones rows)
 
 -- the zone set of each unit that a table gives, or its first fault
 unfoldable pub zone_sets_of : List ℕ → List ℕ → List Row → Result (List ℕ) RowFault
-zone_sets_of units zones rows = go_on (zone_set_rows units zones rows) (λ listed. Ok (zone_sets (length units) (length zones) listed))
+zone_sets_of units zones rows =
+    go_on (zone_set_rows units zones rows) (λ listed. Ok (zone_sets (length units) (length zones) listed))

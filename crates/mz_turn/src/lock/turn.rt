@@ -31,7 +31,8 @@ impl<T: Story + Send + Drop> TurnLock<T> {
         requires lock { chair.old.lock ≡ self.now }
         requires idle { chair.old.taken ≡ None }
         ensures { MatchResult result
-            (λ value. Takes T.entries T.owner T.setting chair.old value × (chair.new ≡ with_turn chair.old (T.entries value)))
+            (λ value. Takes T.entries T.owner T.setting chair.old value
+            × (chair.new ≡ with_turn chair.old (T.entries value)))
             (λ other. Misses chair.old chair.new other) }
     {
         let shared = &self.table.shared;

@@ -48,7 +48,8 @@ impl Log {
     /// Without memory the line is left out.
     pub(super) fn write(&mut self, line: Line)
         ensures name { self.new.name ≡ self.old.name }
-        ensures lines { (self.new.lines.items ≡ self.old.lines.items) ⊎ (self.new.lines.items ≡ self.old.lines.items ++ line ∷ []) }
+        ensures lines { (self.new.lines.items ≡ self.old.lines.items)
+            ⊎ (self.new.lines.items ≡ self.old.lines.items ++ line ∷ []) }
     {
         drop(self.lines.push(line));
     }

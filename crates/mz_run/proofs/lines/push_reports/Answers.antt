@@ -1,5 +1,5 @@
 use Rattle.mz_run.specs.Lines.{report_line}
-use Rattle.mz_run.proofs.TextLemmas.{pieces_more}
+use Rattle.mz_num.proofs.PieceLaws.{pieces_more}
 use Rattle.mz_run.proofs.lines.push_reports.Goals as goal
 
 pub loop-place-preserved : goal.loop-place-preserved

@@ -1,5 +1,5 @@
 use Rattle.mz_run.specs.Solution.{unit_line}
-use Rattle.mz_run.proofs.TextLemmas.{pieces_more}
+use Rattle.mz_num.proofs.PieceLaws.{pieces_more}
 use Rattle.mz_run.proofs.solution.push_units.Goals as goal
 
 pub loop-unit-preserved : goal.loop-unit-preserved
