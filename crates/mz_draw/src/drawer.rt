@@ -1,5 +1,6 @@
 //! The draws of a seat in a run, one after another.
 ghost use Rattle.std.specs.Prelude.{◌≡◌, ℕ, ◌+◌, ◌*◌, ◌%◌, ◌^◌, ◌<◌, ◌≤◌, length, All};
+ghost use Rattle.mz_num.specs.Limits.{most_runs, most_zones};
 ghost use Rattle.mz_draw.specs.Words.{word_at};
 ghost use Rattle.mz_draw.specs.Draws.{draw_at, IsDrawFrom};
 
@@ -34,7 +35,7 @@ impl Model for Drawer {
 impl Drawer {
     /// The words of a seat, from the first.
     pub fn new(seed: u64, run: u32, seat: u8) -> Drawer
-        requires runs { run ≤ 1000 }
+        requires runs { run ≤ most_runs }
         requires seats { seat < 64 }
         ensures { result ≡ record { seed = seed; run = run; seat = seat; taken = 0 } }
     {
@@ -55,7 +56,7 @@ impl Drawer {
         requires left { self.old.taken + 3 < 2 ^ 64 }
         requires some_free { 0 < length free.now }
         requires same_length { length counts.now ≡ length free.now }
-        requires choices { All (λ m. (2 ≤ m) × (m ≤ 60)) counts.now }
+        requires choices { All (λ m. (2 ≤ m) × (m ≤ most_zones)) counts.now }
         ensures drawn { (k : ℕ) → self.old.taken ≡ 3 * k
             → result ≡ draw_at self.old.seed self.old.run self.old.seat free.now counts.now k }
         ensures from { IsDrawFrom free.now counts.now result }

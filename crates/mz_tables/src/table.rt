@@ -1,5 +1,6 @@
 //! A table: the fields of its wanted columns, row by row.
 ghost use Rattle.std.specs.Prelude.{◌≡◌, ◌≤◌, ◌<◌, [], length, map, option_map, get_or, IfOk, OnOk, ◌++◌};
+ghost use Rattle.mz_num.specs.Limits.{most_file_bytes};
 ghost use Rattle.std.specs.List.{All};
 ghost use Rattle.csv.specs.Records.{fields_of, partial_of};
 ghost use Rattle.mz_tables.specs.Cells.{kept_of};
@@ -26,6 +27,7 @@ pub struct Table {
 
 impl Model for Table {
     ghost use Rattle.std.specs.Prelude.{List, length, ◌≡◌, ◌≤◌, ◌*◌};
+    ghost use Rattle.mz_num.specs.Limits.{most_file_bytes};
     ghost use Rattle.csv.specs.Records.{fields_of};
     ghost use Rattle.mz_tables.specs.Cells.{rows_in};
     ghost use Rattle.mz_tables.specs.Table.{Row};
@@ -35,7 +37,7 @@ impl Model for Table {
     ghost view = { λ a. rows_in a.columns.items a.count (fields_of a.cells) };
 
     ghost invariant = { λ a. (length (fields_of a.cells) ≡ a.count * length a.columns.items)
-        × (length a.columns.items ≤ 65535) × (a.count ≤ 268435456) };
+        × (length a.columns.items ≤ 65535) × (a.count ≤ most_file_bytes) };
 }
 
 impl Table {
@@ -43,7 +45,7 @@ impl Table {
     /// the start is skipped; fields stand between commas, or between tabs where the bytes before the first line end
     /// hold no comma; quotes, doubled quotes and line ends are those of `csv`.
     pub fn read(alloc: Global, bytes: &[u8], wants: &Wants) -> Result<Table, TableFault>
-        requires { length bytes.now ≤ 268435456 }
+        requires { length bytes.now ≤ most_file_bytes }
         ensures answer { Answers result (read_table bytes.now wants.now) }
         ensures wide { IfOk result (λ table. All (λ row. length row ≡ length wants.now) table) }
     {
@@ -59,7 +61,7 @@ impl Table {
     /// How many rows there are.
     pub fn rows(&self) -> u32
         ensures rows { result ≡ length self.now }
-        ensures few { length self.now ≤ 268435456 }
+        ensures few { length self.now ≤ most_file_bytes }
     {
         self.count
     }
@@ -104,7 +106,7 @@ fn read_rows(
     columns: Vec<Option<usize>>,
 ) -> Result<Table, TableFault>
     requires reading { IsReading reader.old }
-    requires few { length (rest_of reader.old) ≤ 268435456 }
+    requires few { length (rest_of reader.old) ≤ most_file_bytes }
     requires narrow { length columns.items ≤ 65535 }
     ensures answer { Answers result (table_rows width columns.items (rest_of reader.old)) }
     ensures wide { IfOk result (λ table. All (λ row. length row ≡ length columns.items) table) }

@@ -1,6 +1,7 @@
 -- The lock's invariant, which holds between any two steps. The words are the lock word and the count word,
 -- and one slot holds the value.
 use Rattle.std.specs.Prelude.{◌≡◌, ◌≢◌, ◌+◌, ◌<◌, ◌≤◌, ◌⊎◌, ℕ, List, [], ◌∷◌, ◌++◌, length, Option, Some}
+use Rattle.mz_num.specs.Limits.{most_workers}
 use Rattle.std.specs.List.{All}
 use mathlib.Core.Option.{some, none}
 use mathlib.Core.Option as maybe
@@ -41,7 +42,7 @@ module _ {T E S : Type 0} (entries : T → List E) (owner : E → ℕ) (setting_
 
   -- `start` is the value's list at the opening
   pub record LockHolds (start : List E) (setting : S) (seats : ℕ) (s : State (Option T) (View E S)) : Type 0 where
-    pub few : seats ≤ 60
+    pub few : seats ≤ most_workers
     pub word : ℕ
     pub list : List E
     pub words : s.words ≡ word ∷ length list ∷ []

@@ -1,5 +1,6 @@
 -- What each step on the lock's table tells: of the step, the seat before, the number found and the seat after.
 use Rattle.std.specs.Prelude.{◌≡◌, ◌≢◌, ◌+◌, ◌<◌, ◌≤◌, ℕ, List, [], ◌∷◌, length, Option, Some}
+use Rattle.mz_num.specs.Limits.{most_workers}
 use Rattle.std.specs.List.{All}
 use Rattle.atomic_table.specs.Table.{Me, Step, rest}
 use Rattle.mz_turn.specs.declared.view.View.{View}
@@ -32,7 +33,7 @@ module _ {T E S : Type 0} (entries : T → List E) (owner : E → ℕ) (setting 
     pub view : m' ≡ (missed_view m.0 found, m.1)
     pub other : ℕ
     pub found_is : found ≡ other + 1
-    pub few : other < 60
+    pub few : other < most_workers
     pub apart : other ≢ m.0.number
     pub chair : other < m.0.seats
 

@@ -1,5 +1,6 @@
 //! The lock.
 ghost use Rattle.std.specs.Prelude.{◌≡◌, ◌<◌, ◌≤◌, ℕ, List, length, Some, IfOk};
+ghost use Rattle.mz_num.specs.Limits.{most_workers};
 ghost use Rattle.std.specs.List.{All};
 ghost use Rattle.mz_turn.specs.Chair.{AreFresh, AreAllOf, Learns};
 
@@ -44,7 +45,7 @@ impl<T: Story + Send + Drop> TurnLock<T> {
         seats: u8,
     ) -> Result<(TurnLock<T>, Vec<Chair<T>>), NoMemory>
         requires some { 1 ≤ seats }
-        requires few { seats ≤ 60 }
+        requires few { seats ≤ most_workers }
         ensures lock { IfOk result (λ opened. (opened.0.seats ≡ seats) × (opened.0.setting ≡ Some (T.setting value))) }
         ensures chairs { IfOk result (λ opened. AreFresh opened.0 (T.entries value) seats opened.1.items) }
     {
