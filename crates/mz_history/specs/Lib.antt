@@ -1,7 +1,10 @@
+pub mod Cooling
 pub mod Core
 pub mod Entry
+pub mod History
 pub mod Items
 pub mod Moves
+pub mod Overtaken
 pub mod Replay
 pub mod Rules
 pub mod SeatWords

@@ -1,6 +1,8 @@
 //! What decides whether a proposal is accepted.
 ghost use Rattle.std.specs.Prelude.{◌≡◌, ◌≤◌, ◌^◌, ℕ, IfOk, IsTrue, Some, is_some};
 ghost use Rattle.mz_params.specs.ParamFile.{IsAccepted};
+ghost use Rattle.mz_model.specs.declared.parts.Parts.{Parts};
+ghost use Rattle.mz_history.specs.Cooling.{AreRulesOf};
 ghost use Rattle.mz_history.specs.Rules.{AreFixed, IsRules};
 
 use mz_cool::{Schedule, Stairs};
@@ -26,6 +28,7 @@ impl Rules {
         requires accepted { IsAccepted params.now }
         requires given { IsTrue (is_some params.now.start) }
         ensures fixed { IfOk result (λ rules. (start : ℕ) → params.now.start ≡ Some start → AreFixed start params.now rules) }
+        ensures asked { IfOk result (λ rules. (parts : Parts) (seed run : ℕ) → AreRulesOf parts params.now seed run rules) }
         ensures limit { IfOk result (λ rules. rules.limit ≡ params.now.iterations) }
         ensures rules { IfOk result IsRules }
     {

@@ -4,6 +4,10 @@ ghost use Rattle.mz_model.specs.Parts.{unit_count};
 ghost use Rattle.mz_model.specs.Zones.{free_units};
 ghost use Rattle.mz_num.specs.Places.{list_below};
 ghost use Rattle.mz_history.specs.Core.{commit, core_step, entry_of_seat, is_in_sight, look, new_seat, next_draw, reading_of, seats_of, spent};
+ghost use Rattle.mz_history.specs.declared.event.Event.TheVariants.{Commit};
+ghost use Rattle.mz_history.specs.declared.event.Reply.TheVariants.{Again};
+ghost use Rattle.mz_history.specs.History.{IsSound};
+ghost use Rattle.mz_history.specs.Overtaken.{IsOvertakenCommit};
 ghost use Rattle.mz_history.specs.Replay.{turns_of};
 ghost use Rattle.mz_history.specs.Rules.{IsRules, setting_with};
 
@@ -80,6 +84,14 @@ impl World {
         })
     }
 
+    /// The entries so far, in order.
+    pub fn journal(&self) -> &[Entry]
+        ensures entries { result.now ≡ self.now.core.journal }
+        ensures sound { IsSound self.now }
+    {
+        self.journal.as_slice()
+    }
+
     /// What the event is answered, and what it leaves. No memory is taken.
     pub fn step(&mut self, problem: &Problem, rules: &Rules, event: Event) -> Reply
         requires problem { problem.now ≡ self.old.setting.parts }
@@ -88,6 +100,7 @@ impl World {
         ensures reply { result ≡ (core_step self.old.setting self.old.limit self.old.core event).0 }
         ensures core { self.new.core ≡ (core_step self.old.setting self.old.limit self.old.core event).1 }
         ensures setting { (self.new.setting ≡ self.old.setting) × (self.new.limit ≡ self.old.limit) }
+        ensures overtaken { (seat position : ℕ) → event ≡ Commit seat → result ≡ Again position → IsOvertakenCommit self.old.setting self.old.core seat position }
     {
         match event {
             Event::Look(seat, front) => self.look(problem, seat, front),
