@@ -27,12 +27,12 @@ ends_at unit edge = values_at unit (ends_of edge)
 ends_at-first : (unit : ℕ) (edge : ℕ × ℕ × ℕ) → (edge.0 == unit) ≡ true → (edge.1 == unit) ≡ false → ends_at unit edge ≡ as_neighbour edge.1 edge.2 ∷ []
 ends_at-first unit edge one two =
     let rest : List Neighbour = cond (edge.1 == unit) (as_neighbour edge.0 edge.2 ∷ []) [] in
-    cond-true (edge.0 == unit) ((edge.1, edge.2) ∷ rest) rest one ∙ ap (λ xs. (edge.1, edge.2) ∷ xs) (cond-false (edge.1 == unit) (as_neighbour edge.0 edge.2 ∷ []) [] two)
+    cond-true (edge.0 == unit) (as_neighbour edge.1 edge.2 ∷ rest) rest one ∙ ap (λ xs. as_neighbour edge.1 edge.2 ∷ xs) (cond-false (edge.1 == unit) (as_neighbour edge.0 edge.2 ∷ []) [] two)
 
 ends_at-not_first : (unit : ℕ) (edge : ℕ × ℕ × ℕ) → (edge.0 == unit) ≡ false → ends_at unit edge ≡ cond (edge.1 == unit) (as_neighbour edge.0 edge.2 ∷ []) []
 ends_at-not_first unit edge one =
     let rest : List Neighbour = cond (edge.1 == unit) (as_neighbour edge.0 edge.2 ∷ []) [] in
-    cond-false (edge.0 == unit) ((edge.1, edge.2) ∷ rest) rest one
+    cond-false (edge.0 == unit) (as_neighbour edge.1 edge.2 ∷ rest) rest one
 
 ends_at-second : (unit : ℕ) (edge : ℕ × ℕ × ℕ) → (edge.0 == unit) ≡ false → (edge.1 == unit) ≡ true → ends_at unit edge ≡ as_neighbour edge.0 edge.2 ∷ []
 ends_at-second unit edge one two = ends_at-not_first unit edge one ∙ cond-true (edge.1 == unit) (as_neighbour edge.0 edge.2 ∷ []) [] two
