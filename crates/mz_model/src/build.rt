@@ -19,6 +19,7 @@ use crate::holders::holders_by_feature;
 use crate::neighbour::Neighbour;
 use crate::parts::{Parts, Target};
 use crate::problem::Problem;
+use crate::shares::{are_narrow, shares_of};
 use crate::touch::Touch;
 use mz_num::NoMemory;
 use std::alloc::Global;
@@ -36,6 +37,8 @@ impl Problem {
         let features = parts.feature_ids.len() as u32;
         let holders = holders_by_feature(alloc, parts.amounts.as_slice(), features)?;
         let touches = touches_by_unit(alloc, &parts, &holders)?;
+        let shares = shares_of(alloc, &parts)?;
+        let narrow = are_narrow(&parts);
         Ok(Problem {
             parts,
             zones,
@@ -44,6 +47,8 @@ impl Problem {
             neighbours,
             holders,
             touches,
+            shares,
+            narrow,
         })
     }
 }

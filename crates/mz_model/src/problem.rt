@@ -1,5 +1,5 @@
 //! The problem, and what it is made of by place.
-ghost use Rattle.std.specs.Prelude.{◌≡◌, ◌+◌, ◌*◌, ◌%◌, ◌<◌, ◌≤◌, ◌^◌, IfOk, IsTrue, length, slice_index, slice_index_or, slice_get, Some, []};
+ghost use Rattle.std.specs.Prelude.{◌≡◌, ◌+◌, ◌-◌, ◌*◌, ◌%◌, ◌<◌, ◌≤◌, ◌^◌, IfOk, IsTrue, length, slice_index, slice_index_or, slice_get, Some, []};
 ghost use Rattle.std.specs.Prelude.{◌==◌};
 ghost use Rattle.std.specs.List.{All, position_or_len};
 ghost use Rattle.mz_model.specs.Amounts.{holders_of};
@@ -14,7 +14,7 @@ ghost use Rattle.mz_model.specs.Zones.{allowed_zones, is_allowed, free_units, co
 use crate::groups::Groups;
 use crate::neighbour::Neighbour;
 use crate::parts::{Parts, Target};
-use crate::product::{by_millionths, part_of};
+use crate::product::{by_millionths, narrow_part, wide_part};
 use crate::touch::Touch;
 use std::marker::Model;
 
@@ -32,6 +32,11 @@ pub struct Problem {
     pub(crate) holders: Groups<(u32, u64)>,
     /// The target rows for which each unit gains in some zone, with its amount of their feature.
     pub(crate) touches: Groups<Touch>,
+    /// The part of a feature's amounts that counts in a zone, in millionths, at `feature * zones + zone`:
+    /// what one move asks of it lies side by side.
+    pub(crate) shares: Vec<u64>,
+    /// Whether the products of every penalty fit 64 bits.
+    pub(crate) narrow: bool,
 }
 
 impl Model for Problem {
@@ -43,7 +48,7 @@ impl Model for Problem {
 
     ghost view = { λ a. a.parts };
 
-    ghost invariant = { λ a. AreListsOf a.parts a.zones a.free.items a.counts.items a.neighbours a.holders a.touches };
+    ghost invariant = { λ a. AreListsOf a.parts a.zones a.free.items a.counts.items a.neighbours a.holders a.touches a.shares.items a.narrow };
 }
 
 impl Problem {
@@ -339,8 +344,7 @@ impl Problem {
         requires feature { feature < feature_count self.now }
         ensures { result ≡ fraction_at self.now zone feature }
     {
-        self.parts.fractions.as_slice()[zone as usize * self.parts.feature_ids.len()
-            + feature as usize]
+        self.shares[feature as usize * self.parts.zone_ids.len() + zone as usize]
     }
 
     /// The penalty of a target row for which so much is held, in ten-thousandths, at most 10^18: the
@@ -356,7 +360,11 @@ impl Problem {
         if missing == 0 {
             return 0;
         }
-        part_of(target.weight, missing, target.level)
+        if self.narrow {
+            narrow_part(target.weight, missing, target.level)
+        } else {
+            wide_part(target.weight, missing, target.level)
+        }
     }
 
     /// The zone that stands `shift` places on from a unit's zone in its allowed zones, going round.
@@ -409,6 +417,23 @@ impl Problem {
             Some(own) => if zone == own { amount } else { 0 },
             None => by_millionths(amount, self.fraction(zone, target.feature)),
         }
+    }
+
+    /// What is held for a target row of which so much was held, once a unit that touches it went from one
+    /// zone to another, in ten-thousandths.
+    #[inline]
+    pub fn moved_total(&self, touch: Touch, held: u64, from: u8, to: u8) -> u64
+        requires row { touch.row < target_count self.now }
+        requires from { from < zone_count self.now }
+        requires to { to < zone_count self.now }
+        requires held { held ≤ 10 ^ 18 }
+        requires lost { gain_from self.now touch.row touch.amount from ≤ 10 ^ 18 }
+        requires gained { gain_from self.now touch.row touch.amount to ≤ 10 ^ 18 }
+        ensures { result ≡ held + gain_from self.now touch.row touch.amount to - gain_from self.now touch.row touch.amount from }
+    {
+        let gained = self.gain_from(touch.row, touch.amount, to);
+        let lost = self.gain_from(touch.row, touch.amount, from);
+        (held + gained).saturating_sub(lost)
     }
 }
 
