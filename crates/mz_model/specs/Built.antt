@@ -24,15 +24,26 @@ shares_of parts = list_below (zone_count parts * feature_count parts) (share_at 
 abbrev pub IsNarrowRow : Target → Type 0
 IsNarrowRow row = 2 * (row.weight * row.level) + row.level < 2 ^ 64
 
+-- the neighbours of each unit
+abbrev pub neighbour_lists : Parts → List (List Neighbour)
+neighbour_lists parts = list_below (unit_count parts) (neighbours_of parts)
+
+-- the target rows that each unit touches
+abbrev pub touch_lists : Parts → List (List Touch)
+touch_lists parts = list_below (unit_count parts) (touches_of parts)
+
 -- each list is the one that the parts say, and where the flag is set each row is narrow
-pub record AreListsOf (parts : Parts) (zones : List (List ℕ)) (free counts : List ℕ) (neighbours : List (List Neighbour)) (holders : List (List (ℕ × ℕ))) (touches : List (List Touch)) (shares : List ℕ) (narrow : Bool) : Type 0 where
+pub record AreListsOf
+    (parts : Parts) (zones : List (List ℕ)) (free counts : List ℕ) (neighbours : List (List Neighbour))
+    (holders : List (List (ℕ × ℕ))) (touches : List (List Touch)) (shares : List ℕ) (narrow : Bool)
+    : Type 0 where
   pub valid : IsValid parts
   pub zones_are : zones ≡ list_below (unit_count parts) (allowed_zones parts)
   pub free_are : free ≡ free_units parts
   pub counts_are : counts ≡ counts_of parts
-  pub neighbours_are : neighbours ≡ list_below (unit_count parts) (neighbours_of parts)
+  pub neighbours_are : neighbours ≡ neighbour_lists parts
   pub holders_are : holders ≡ list_below (feature_count parts) (holders_of parts.amounts)
-  pub touches_are : touches ≡ list_below (unit_count parts) (touches_of parts)
+  pub touches_are : touches ≡ touch_lists parts
   pub shares_are : shares ≡ shares_of parts
   pub narrow_rows : IsTrue narrow → All IsNarrowRow parts.targets
 
@@ -48,4 +59,6 @@ greatest_part_of parts row = greatest_part_in parts row.feature row.zone
 -- of the units that hold a feature those for which that part of the amount rounds to something, each with the row
 -- and the amount
 abbrev pub touching : ℕ → ℕ → List (ℕ × ℕ) → List (ℕ × Touch)
-touching row part holders = map (λ (holder : ℕ × ℕ). (holder.0, as_touch row holder.1)) (filter (λ (holder : ℕ × ℕ). nat_le 500000 (holder.1 * part)) holders)
+touching row part holders =
+    map (λ (holder : ℕ × ℕ). (holder.0, as_touch row holder.1))
+    (filter (λ (holder : ℕ × ℕ). nat_le 500000 (holder.1 * part)) holders)

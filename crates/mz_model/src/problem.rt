@@ -1,11 +1,12 @@
 //! The problem, and what it is made of by place.
-ghost use Rattle.std.specs.Prelude.{◌≡◌, ◌+◌, ◌-◌, ◌*◌, ◌%◌, ◌<◌, ◌≤◌, ◌^◌, IfOk, IsTrue, length, slice_index, slice_index_or, slice_get, Some, []};
-ghost use Rattle.std.specs.Prelude.{◌==◌};
+ghost use Rattle.std.specs.Prelude.{◌≡◌, ◌%◌, ◌<◌, ◌≤◌, ◌^◌, ◌==◌, IsTrue, Some, []};
+ghost use Rattle.std.specs.Prelude.{length, slice_index, slice_index_or, slice_get};
 ghost use Rattle.std.specs.List.{All, position_or_len};
 ghost use Rattle.mz_model.specs.Amounts.{holders_of};
 ghost use Rattle.mz_model.specs.Boundary.{IsLength, as_neighbour, edge_term_of, neighbours_of};
-ghost use Rattle.mz_model.specs.Parts.{unit_count, zone_count, feature_count, target_count, cost_at, fraction_at, outer_at, rate_at, target_at};
-ghost use Rattle.mz_model.specs.Targets.{gain_from, gain_of, touched_rows, touches_of};
+ghost use Rattle.mz_model.specs.Parts.{unit_count, zone_count, feature_count, target_count};
+ghost use Rattle.mz_model.specs.Parts.{cost_at, fraction_at, outer_at, rate_at, target_at};
+ghost use Rattle.mz_model.specs.Targets.{gain_from, gain_of, held_after, touched_rows, touches_of};
 ghost use Rattle.mz_model.specs.Scores.{penalty_term_of};
 ghost use Rattle.mz_num.specs.ZoneSet.{IsZoneSet};
 ghost use Rattle.mz_model.specs.Valid.{IsPair, IsValid};
@@ -48,7 +49,9 @@ impl Model for Problem {
 
     ghost view = { λ a. a.parts };
 
-    ghost invariant = { λ a. AreListsOf a.parts a.zones a.free.items a.counts.items a.neighbours a.holders a.touches a.shares.items a.narrow };
+    ghost invariant = { λ a.
+        AreListsOf a.parts a.zones a.free.items a.counts.items a.neighbours a.holders a.touches
+        a.shares.items a.narrow };
 }
 
 impl Problem {
@@ -283,7 +286,10 @@ impl Problem {
         ensures gain { result ≡ gain_of self.now t unit zone }
         ensures small { result ≤ 10 ^ 18 }
     {
-        match self.touches(unit).binary_search_by_key(&t, |touch| touch.row) {
+        match self
+            .touches(unit)
+            .binary_search_by_key(&t, |touch| touch.row)
+        {
             Ok(i) => self.touched_gain(unit, i as u32, zone),
             Err(_) => 0,
         }
@@ -429,7 +435,7 @@ impl Problem {
         requires held { held ≤ 10 ^ 18 }
         requires lost { gain_from self.now touch.row touch.amount from ≤ 10 ^ 18 }
         requires gained { gain_from self.now touch.row touch.amount to ≤ 10 ^ 18 }
-        ensures { result ≡ held + gain_from self.now touch.row touch.amount to - gain_from self.now touch.row touch.amount from }
+        ensures { result ≡ held_after self.now touch held from to }
     {
         let gained = self.gain_from(touch.row, touch.amount, to);
         let lost = self.gain_from(touch.row, touch.amount, from);
