@@ -1,5 +1,5 @@
 -- What makes parts a problem: few enough things, lists that fit one another, and quantities within the limits.
-use Rattle.std.specs.Prelude.{◌≡◌, ℕ, ◌*◌, ◌<◌, ◌≤◌, ◌^◌, ◌≢◌, ◌⊎◌, None, List, length, slice_index, IsSomeAnd}
+use Rattle.std.specs.Prelude.{◌≡◌, ℕ, ◌*◌, ◌<◌, ◌≤◌, ◌^◌, ◌≢◌, None, List, length, slice_index, IsSomeAnd}
 use Rattle.std.specs.List.{All, AllPairs}
 use Rattle.mz_model.specs.declared.parts.Parts.{Parts}
 use Rattle.mz_model.specs.declared.parts.Target.{Target}

@@ -1,4 +1,4 @@
-use Rattle.std.proofs.Common.{◌*◌, arith}
+use Rattle.std.proofs.Common.{arith}
 use Rattle.mz_model.proofs.Products.{part-le}
 use Rattle.mz_model.proofs.product.wide_part.Goals as goal
 

@@ -1,4 +1,4 @@
-use Rattle.std.proofs.Common.{◌≡◌, ◌∙◌, ap, arith}
+use Rattle.std.proofs.Common.{◌∙◌, ap, arith}
 use Rattle.mz_model.specs.Built.{shares_of}
 use Rattle.mz_model.specs.Parts.{zone_count}
 use Rattle.mz_model.proofs.ShareLaws.{IsShare, share-is}
