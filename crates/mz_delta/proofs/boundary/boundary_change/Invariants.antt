@@ -1,7 +1,7 @@
 use Rattle.std.proofs.Common.{◌≡◌, ◌+◌, ◌*◌, ◌^◌, ◌≤◌}
 use Rattle.mz_num.specs.Places.{sum_below}
 use Rattle.mz_delta.specs.Move.{neighbour_term}
-use Rattle.mz_delta.proofs.neighbourhood.boundary_change.Given as goal
+use Rattle.mz_delta.proofs.boundary.boundary_change.Given as goal
 
 abbrev pub invariant-loop-i : goal.invariant-loop-i
 invariant-loop-i l = record {
