@@ -5,8 +5,9 @@ use Rattle.std.specs.Prelude.{pos, ◌+ℤ◌, ◌-ℤ◌, IsTrue, slice_index}
 use Rattle.std.specs.List.{sum_by}
 use Rattle.std.proofs.lemmas.List.{get_or-map, length-map}
 use Rattle.std.proofs.lemmas.List.Elements.{All-get_or}
+use Rattle.mz_model.specs.declared.neighbour.Neighbour.{Neighbour}
 use Rattle.mz_model.specs.declared.parts.Parts.{Parts}
-use Rattle.mz_model.specs.Boundary.{edge_term_of, neighbours_of}
+use Rattle.mz_model.specs.Boundary.{edge_term_of, neighbours_of, no_neighbour}
 use Rattle.mz_model.specs.Parts.{cost_at, outer_at}
 use Rattle.mz_num.specs.Places.{sum_below}
 use Rattle.mz_model.specs.Plans.{IsLegalPlan}
@@ -19,7 +20,7 @@ use Rattle.mz_model.proofs.ScoreLaws.{boundary_of_plan-is}
 use Rattle.mz_delta.specs.declared.judged.Judged.{Judged}
 use Rattle.mz_delta.specs.declared.reading.Reading.{Reading}
 use Rattle.mz_delta.specs.Judged.{IsDifference}
-use Rattle.mz_delta.specs.Move.{boundary_around, moved_total, moved_totals, neighbour_term, penalty_around}
+use Rattle.mz_delta.specs.Move.{boundary_around, boundary_growth, cost_growth, moved_total, moved_totals, neighbour_term, penalty_around, penalty_growth, penalty_moved, penalty_read, touched_penalty}
 use Rattle.mz_model.specs.Move.{moved_plan}
 use Rattle.mz_delta.specs.Reading.{Agrees, IsWellFormed, neighbour_at}
 use Rattle.mz_delta.proofs.DifferenceLaws.{crosswise, sum_of_differences}
@@ -35,15 +36,15 @@ near_terms : (parts : Parts) (reading : Reading) (zone : ℕ) (zone_of : ℕ →
     → sum_by (near_by (edge_term_of parts) zone_of reading.unit) (neighbours_of parts reading.unit) ≡ sum_below (length (neighbours_of parts reading.unit)) (neighbour_term parts reading zone)
 unfolding neighbour_term
 near_terms parts reading zone zone_of own others =
-    sum_by-places (near_by (edge_term_of parts) zone_of reading.unit) (neighbours_of parts reading.unit) (0, 0)
-    ∙ sum_below-same (length (neighbours_of parts reading.unit)) (λ i. near_by (edge_term_of parts) zone_of reading.unit (get_or (neighbours_of parts reading.unit) i (0, 0))) (neighbour_term parts reading zone)
-    (λ i h. ap (λ z. edge_term_of parts (get_or (neighbours_of parts reading.unit) i (0, 0)).1 z (zone_of (neighbour_at parts reading.unit i))) own
-    ∙ ap (edge_term_of parts (get_or (neighbours_of parts reading.unit) i (0, 0)).1 zone) (others i h))
+    sum_by-places (near_by (edge_term_of parts) zone_of reading.unit) (neighbours_of parts reading.unit) no_neighbour
+    ∙ sum_below-same (length (neighbours_of parts reading.unit)) (λ i. near_by (edge_term_of parts) zone_of reading.unit (get_or (neighbours_of parts reading.unit) i no_neighbour)) (neighbour_term parts reading zone)
+    (λ i h. ap (λ z. edge_term_of parts (get_or (neighbours_of parts reading.unit) i no_neighbour).length z (zone_of (neighbour_at parts reading.unit i))) own
+    ∙ ap (edge_term_of parts (get_or (neighbours_of parts reading.unit) i no_neighbour).length zone) (others i h))
 
 -- the read zone of a neighbour is its zone in a plan that agrees
 read_neighbour : (parts : Parts) (reading : Reading) (zones : List ℕ) (i : ℕ) → Agrees parts zones reading → i < length (neighbours_of parts reading.unit) → slice_index zones (neighbour_at parts reading.unit i) ≡ slice_index reading.neighbours.items i
 read_neighbour parts reading zones i agrees h =
-    sym (ap (λ (zs : List ℕ). get_or zs i 0) agrees.neighbours ∙ get_or-map (λ (neighbour : ℕ × ℕ). slice_index zones neighbour.0) (neighbours_of parts reading.unit) i (0, 0) 0 h)
+    sym (ap (λ (zs : List ℕ). get_or zs i 0) agrees.neighbours ∙ get_or-map (λ (neighbour : Neighbour). slice_index zones neighbour.unit) (neighbours_of parts reading.unit) i no_neighbour 0 h)
 
 boundary_around-is : (parts : Parts) (reading : Reading) (zone : ℕ) → boundary_around parts reading zone ≡ sum_below (length (neighbours_of parts reading.unit)) (neighbour_term parts reading zone) + edge_term_of parts (outer_at parts reading.unit) zone parts.available
 unfolding boundary_around
@@ -57,7 +58,7 @@ boundary-moved parts reading zones zone valid well allowed legal agrees =
     near_terms parts reading reading.zone (slice_index zones) (sym agrees.unit) (λ i h. read_neighbour parts reading zones i agrees h) in
     let after : sum_by (near_by (edge_term_of parts) (slice_index (moved_plan zones reading.unit zone)) reading.unit) (neighbours_of parts reading.unit) ≡ sum_below (length (neighbours_of parts reading.unit)) (neighbour_term parts reading zone) =
     near_terms parts reading zone (slice_index (moved_plan zones reading.unit zone)) (moved-own zones reading.unit zone inside)
-    (λ i h. moved-other zones reading.unit zone (neighbour_at parts reading.unit i) (All-get_or (λ (neighbour : ℕ × ℕ). neighbour.0 ≡ reading.unit → ⊥) (neighbours_of parts reading.unit) i (0, 0) h (neighbours_of-others parts reading.unit valid)) ∙ read_neighbour parts reading zones i agrees h) in
+    (λ i h. moved-other zones reading.unit zone (neighbour_at parts reading.unit i) (All-get_or (λ (neighbour : Neighbour). neighbour.unit ≡ reading.unit → ⊥) (neighbours_of parts reading.unit) i no_neighbour h (neighbours_of-others parts reading.unit valid)) ∙ read_neighbour parts reading zones i agrees h) in
     let own : edge_term_of parts (outer_at parts reading.unit) (slice_index zones reading.unit) parts.available ≡ edge_term_of parts (outer_at parts reading.unit) reading.zone parts.available = ap (λ k. edge_term_of parts (outer_at parts reading.unit) k parts.available) (sym agrees.unit) in
     omega (
       arith,
@@ -100,9 +101,9 @@ penalty_around-held parts unit zones totals held =
 -- what was counted round the unit for a move to the zone
 pub record IsCounted (parts : Parts) (reading : Reading) (zone : ℕ) (judged : Judged) : Type 0 where
   pub unit : judged.unit ≡ reading.unit
-  pub cost : judged.cost ≡ pos (cost_at parts reading.unit zone) -ℤ pos (cost_at parts reading.unit reading.zone)
-  pub boundary : judged.boundary ≡ pos (boundary_around parts reading zone) -ℤ pos (boundary_around parts reading reading.zone)
-  pub penalty : judged.penalty ≡ pos (penalty_around parts reading.unit judged.totals.items) -ℤ pos (penalty_around parts reading.unit reading.totals.items)
+  pub cost : judged.cost ≡ cost_growth parts reading zone
+  pub boundary : judged.boundary ≡ boundary_growth parts reading zone
+  pub penalty : judged.penalty ≡ penalty_growth parts reading zone
   pub change : judged.change ≡ judged.cost +ℤ judged.boundary +ℤ judged.penalty
   pub totals : judged.totals.items ≡ moved_totals parts reading zone
 
@@ -116,8 +117,8 @@ counted-difference parts reading zones zone judged valid well allowed counted le
     let boundary : judged.boundary ≡ pos (boundary_of_plan parts after) -ℤ pos (boundary_of_plan parts zones) =
     counted.boundary ∙ crosswise (boundary_of_plan parts after) (boundary_of_plan parts zones) (boundary_around parts reading zone) (boundary_around parts reading reading.zone) (boundary-moved parts reading zones zone valid well allowed legal agrees) in
     let penalty : judged.penalty ≡ pos (penalty_of_plan parts after) -ℤ pos (penalty_of_plan parts zones) =
-    counted.penalty ∙ crosswise (penalty_of_plan parts after) (penalty_of_plan parts zones) (penalty_around parts reading.unit judged.totals.items) (penalty_around parts reading.unit reading.totals.items)
-    (omega (arith, penalty-moved parts zones reading.unit zone valid legal well.unit allowed, penalty_around-held parts reading.unit zones reading.totals.items agrees.totals, penalty_around-held parts reading.unit (moved_plan zones reading.unit zone) judged.totals.items totals)) in
+    counted.penalty ∙ crosswise (penalty_of_plan parts after) (penalty_of_plan parts zones) (penalty_moved parts reading zone) (penalty_read parts reading)
+    (omega (arith, penalty-moved parts zones reading.unit zone valid legal well.unit allowed, penalty_around-held parts reading.unit zones reading.totals.items agrees.totals, penalty_around-held parts reading.unit (moved_plan zones reading.unit zone) (moved_totals parts reading zone) (moved_totals-held parts reading zones zone well legal agrees))) in
     record {
       cost = cost;
       boundary = boundary;

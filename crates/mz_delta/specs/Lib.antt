@@ -1,4 +1,4 @@
-pub mod Examples
+pub mod Before
 pub mod Judged
 pub mod Move
 pub mod Reading

@@ -4,19 +4,15 @@
 //! numbers of ten-thousandths.
 #![tactic(auto)]
 
+mod before;
+mod boundary;
 mod difference;
 mod judged;
-mod judging;
-mod neighbourhood;
 mod reading;
-mod reads;
 mod rooms;
+mod rows;
 
-pub use judged::Judged;
-pub use judging::{judge, judge_zone};
+pub use before::{Before, judge_from, prepare};
+pub use judged::{Judged, judge, judge_zone};
 pub use mz_num::Filled;
-pub use reading::Reading;
-pub use reads::{read_plan, totals_of};
-
-#[cfg(test)]
-mod tests;
+pub use reading::{Reading, read_plan, totals_of};

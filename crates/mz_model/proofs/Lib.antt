@@ -1,7 +1,5 @@
 pub mod AmountLaws
 pub mod BuildLaws
-pub mod Checked
-pub mod ExampleLaws
 pub mod FillingLaws
 pub mod GroupLaws
 pub mod LimitLaws
@@ -9,6 +7,7 @@ pub mod ListLaws
 pub mod NeighbourLaws
 pub mod Products
 pub mod ScoreLaws
+pub mod ShareLaws
 pub mod TargetLaws
 pub mod TouchLaws
 pub mod ZoneLaws

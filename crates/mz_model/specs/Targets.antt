@@ -1,7 +1,9 @@
 -- Target rows: what a plan holds for a row, how much it falls short, and when the row is met.
-use Rattle.std.specs.Prelude.{ℕ, ◌-◌, ◌*◌, ◌≤◌, Bool, cond, List, map, Option, None, Some, slice_index, ◌==◌, nat_le, nat_lt}
+use Rattle.std.specs.Prelude.{ℕ, ◌+◌, ◌-◌, ◌*◌, ◌≤◌, ◌==◌, Bool, cond, List, map, Option, None, Some}
+use Rattle.std.specs.Prelude.{nat_le, nat_lt, slice_index}
 use Rattle.mz_num.specs.Round.{round}
 use Rattle.mz_model.specs.declared.parts.Parts.{Parts}
+use Rattle.mz_model.specs.declared.touch.Touch.{Touch}
 use Rattle.mz_model.specs.Amounts.{amount_of}
 use Rattle.mz_model.specs.Parts.{unit_count, zone_count, target_count, fraction_at, target_at}
 use Rattle.mz_num.specs.Places.{sum_below, greatest_below, places_below}
@@ -14,7 +16,14 @@ counted (Some own) amount fraction zone = cond (zone == own) amount 0
 
 -- what an amount of a row's feature counts for the row in a zone
 unfoldable pub gain_from : Parts → ℕ → ℕ → ℕ → ℕ
-gain_from parts row amount zone = counted (target_at parts row).zone amount (fraction_at parts zone (target_at parts row).feature) zone
+gain_from parts row amount zone =
+    let target = target_at parts row in
+    counted target.zone amount (fraction_at parts zone target.feature) zone
+
+-- what is held for a row once a unit that touches it went from one zone to another, where so much was held before
+abbrev pub held_after : Parts → Touch → ℕ → ℕ → ℕ → ℕ
+held_after parts touch held from to =
+    held + gain_from parts touch.row touch.amount to - gain_from parts touch.row touch.amount from
 
 -- a unit's amount of a row's feature
 unfoldable pub amount_for : Parts → ℕ → ℕ → ℕ
@@ -52,6 +61,14 @@ is_touched parts unit row = nat_lt 0 (greatest_below (zone_count parts) (gain_of
 unfoldable pub touched_rows : Parts → ℕ → List ℕ
 touched_rows parts unit = places_below (target_count parts) (is_touched parts unit)
 
+-- a target row with an amount of its feature
+abbrev pub as_touch : ℕ → ℕ → Touch
+as_touch row amount = record { row = row; amount = amount }
+
+-- what stands for one past the last
+abbrev pub no_touch : Touch
+no_touch = as_touch 0 0
+
 -- these rows, each with the unit's amount of its feature
-unfoldable pub touches_of : Parts → ℕ → List (ℕ × ℕ)
-touches_of parts unit = map (λ row. (row, amount_for parts row unit)) (touched_rows parts unit)
+unfoldable pub touches_of : Parts → ℕ → List Touch
+touches_of parts unit = map (λ row. as_touch row (amount_for parts row unit)) (touched_rows parts unit)

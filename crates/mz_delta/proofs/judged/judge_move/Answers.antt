@@ -1,0 +1,17 @@
+use Rattle.std.proofs.Common.{◌∙◌, arith, rules}
+use mir.Syntax.{w128}
+use Rattle.std.proofs.lemmas.Int.{to_z-of_z}
+use mir.Val.{SFits}
+use Rattle.mz_model.specs.Parts.{cost_at}
+use Rattle.mz_model.proofs.ZoneLaws.{is_allowed-in_range}
+use Rattle.mz_delta.proofs.DifferenceLaws.{same_difference}
+use Rattle.mz_delta.proofs.judged.judge_move.Goals as goal
+
+pub cost_of-requires-clause-zone : goal.cost_of-requires-clause-zone
+cost_of-requires-clause-zone c = is_allowed-in_range c.args.problem.now c.args.reading.now.unit c.args.zone c.rows_change-penalty.ensures.valid c.requires.well_formed.unit c.requires.allowed
+
+pub cost_of-requires-2-clause-zone : goal.cost_of-requires-2-clause-zone
+cost_of-requires-2-clause-zone c = is_allowed-in_range c.args.problem.now c.args.reading.now.unit c.args.reading.now.zone c.rows_change-penalty.ensures.valid c.requires.well_formed.unit c.requires.well_formed.zone
+
+pub boundary_change-requires-clause-zone : goal.boundary_change-requires-clause-zone
+boundary_change-requires-clause-zone c = is_allowed-in_range c.args.problem.now c.args.reading.now.unit c.args.zone c.rows_change-penalty.ensures.valid c.requires.well_formed.unit c.requires.allowed
