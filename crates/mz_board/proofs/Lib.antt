@@ -1,1 +1,9 @@
-
+pub mod SeenLemmas
+pub mod ItemLemmas
+pub mod ViewLemmas
+pub mod FitLemmas
+pub mod TryLemmas
+pub mod LookLemmas
+pub mod HolderLemmas
+pub mod ChairLemmas
+pub mod NoteLemmas

@@ -49,20 +49,19 @@ module _ {E : Type 0} where
   pub begins_longer : (xs ys list : List E) → Begins xs list → Begins ys list → Begins (longer xs ys) list
   begins_longer xs ys list b c = begins_case xs ys list b c (ltb (length xs) (length ys))
 
-  whole_case : (xs ys list : List E) → xs ≡ list → length ys ≤ length list → (b : Bool) → ltb (length xs) (length ys) ≡ b → cond b ys xs ≡ list
-  whole_case xs ys list is le true e = let n : length xs < length ys = ltb-true _ _ e in absurd (omega (arith, ap length is))
-  whole_case xs ys list is le false e = is
-
-  -- no beginning of a list is longer than the list
-  pub longer_whole : (xs ys list : List E) → xs ≡ list → Begins ys list → longer xs ys ≡ list
-  longer_whole xs ys list is b = whole_case xs ys list is (begins_length ys list b) (ltb (length xs) (length ys)) refl
-
   left_case : (xs ys : List E) (b : Bool) → ltb (length xs) (length ys) ≡ b → length xs ≤ length (cond b ys xs)
   left_case xs ys true e = let n : length xs < length ys = ltb-true _ _ e in omega arith
   left_case xs ys false e = omega arith
 
   pub longer_left : (xs ys : List E) → length xs ≤ length (longer xs ys)
   longer_left xs ys = left_case xs ys (ltb (length xs) (length ys)) refl
+
+  most_case : (xs ys : List E) (n : ℕ) → length xs ≤ n → length ys ≤ n → (b : Bool) → length (cond b ys xs) ≤ n
+  most_case xs ys n x y true = y
+  most_case xs ys n x y false = x
+
+  pub longer_most : (xs ys : List E) (n : ℕ) → length xs ≤ n → length ys ≤ n → length (longer xs ys) ≤ n
+  longer_most xs ys n x y = most_case xs ys n x y (ltb (length xs) (length ys))
 
   right_case : (xs ys : List E) (b : Bool) → ltb (length xs) (length ys) ≡ b → length ys ≤ length (cond b ys xs)
   right_case xs ys true e = omega arith

@@ -41,3 +41,4 @@ pub record IsNote {T E S : Type 0} (me : Me (Option T) (View E S)) : Type 0 wher
   pub kept : me.0.kept ≡ []
   pub told : me.0.told ≡ []
   pub taken : me.0.taken ≡ None
+  pub reached : length me.0.seen ≤ me.0.post.reached

@@ -61,14 +61,13 @@ impl<T: Story + Send + Drop> Board<T> {
     }
 
     // Counts the last entry of the value's list, which has this length.
-    fn count_entry<G: Growth<T::Entry>>(&self, seat: &mut Place<T>, value: &T, length: u64)
+    fn count_entry<G: Growth<T::Entry>>(&self, seat: &mut Place<T>, value: &T, count: u64)
         requires lock { (seat.old.table_id ≡ self.now.table) × (self.now.setting ≡ Some (T.setting value.now)) × (seat.old.me.0.opening ≡ self.now.opening) }
-        requires list { (G.list ≡ T.entries value.now) × (length ≡ length (T.entries value.now)) }
+        requires list { (G.list ≡ T.entries value.now) × (count ≡ length (T.entries value.now)) }
         requires grows { Grows T.Story seat.old.me.0 (T.setting value.now) (T.entries value.now) }
         ensures seat { (seat.new.table_id ≡ seat.old.table_id) × (seat.new.id ≡ seat.old.id) }
         ensures view { seat.new.me ≡ (appended_view seat.old.me.0 (T.entries value.now) (last_writes T.writes (T.entries value.now)), seat.old.me.1) }
     {
-        let _ = (value, length);
         self.table.shared.fetch_add::<Append<G, T>>(seat, COUNT, 1);
     }
 
