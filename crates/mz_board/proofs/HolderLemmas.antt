@@ -15,7 +15,7 @@ use Rattle.mz_board.specs.Items.{written, without, word_of, value_after, ReadOk,
 use Rattle.mz_board.specs.Views.{own_of, appended_view, stored_view, published_view, released_view}
 use Rattle.mz_board.specs.Invariant.{Keeps, Fixed, Stand, words_of, more, HoldsTurn, Fits, IsPosted, BoardHolds}
 use Rattle.mz_board.specs.Chair.{Fitting}
-use Rattle.mz_board.specs.Turn.{Grows}
+use Rattle.mz_board.specs.Turn.{Grows, MayPublish}
 use Rattle.mz_board.specs.Steps.{appended, stored, published, released}
 use Rattle.mz_board.proofs.SeenLemmas.{begins_self, begins_more, grew_self, grew_push}
 use Rattle.mz_board.proofs.ViewLemmas.{each_set, once_set, has_set, set_in}
@@ -266,3 +266,18 @@ module _ {T E S : Type 0} (story : Ghosts T E S) (fixed : Fixed S) where
       → Allows (Rule story fixed) slots id m 0 (λ _. 0) (released story st m)
   releases slots id m value taken st home takes first paid is knows = subst (λ (l : List (ℕ × Option T)). Allows (Rule story fixed) slots id (m.0, l) 0 (λ _. 0) (released story st (m.0, l))) (sym home)
       (λ s r wide me _. (released_view m.0, gives, tt, release_rule s r id m.0 value taken me takes first paid is knows, refl))
+
+  pub releases_after : (slots id : ℕ) (v : View E S) (m : Me (Option T) (View E S)) (value : T) (taken : List E) (st : Step (Option T)) → m ≡ (published_view v, (0, Some value) ∷ []) → v.taken ≡ Some taken → v.post.owes ≡ [] → story.entries value ≡ v.seen → story.setting value ≡ fixed.setting
+      → Allows (Rule story fixed) slots id m 0 (λ _. 0) (released story st m)
+  releases_after slots id v m value taken st is takes paid whole knows = subst (λ (x : Me (Option T) (View E S)). Allows (Rule story fixed) slots id x 0 (λ _. 0) (released story st x)) (sym is)
+      (releases slots id (published_view v, (0, Some value) ∷ []) value taken st refl takes refl paid whole knows)
+
+  pub seat_publishes : (slots id n : ℕ) (m : Me (Option T) (View E S)) (st : Step (Option T)) (o : Option ℕ) → MayPublish o m → o ≡ Some n → Allows (Rule story fixed) slots id m 2 (λ _. n) (published story st m)
+  seat_publishes slots id n m st o may is = let h : (m.0.post.appended ≡ true) × (n ≡ length m.0.seen) = subst (λ (o : Option ℕ). MatchOption o (m.0.post.appended ≡ false) (λ n. (m.0.post.appended ≡ true) × (n ≡ length m.0.seen))) is may.front_is in
+      publishes slots id n m st may.taken may.holds may.paid h.1
+
+module _ {T E S : Type 0} where
+  -- where there is no front to publish, nothing was appended
+  pub unpublished : (m : Me (Option T) (View E S)) (o : Option ℕ) → MayPublish o m → o ≡ None → m ≡ (published_view m.0, m.1)
+  unpublished m o may is = let h : m.0.post.appended ≡ false = subst (λ (o : Option ℕ). MatchOption o (m.0.post.appended ≡ false) (λ n. (m.0.post.appended ≡ true) × (n ≡ length m.0.seen))) is may.front_is in
+      λ i. (record m.0 { post = record m.0.post { appended = h i } }, m.1)

@@ -94,3 +94,6 @@ module _ {E : Type 0} (writes : E → List (ℕ × ℕ)) where
       (λ none. inl (value_kept read.0 (word_of opening read.0) list e none ∙ is))
       (λ x found. inr (record { before = list; entry = e; after = []; list_is = refl; later = le; value = x; writes_it = found })))
       (λ (h : IsWrittenFrom writes front read.0 list). inr (written_more front read.0 list e h)) ok
+
+pub same_setting : {S : Type 0} (x y : S) → Some x ≡ Some y → x ≡ y
+same_setting x y e = cc

@@ -7,3 +7,7 @@ pub mod LookLemmas
 pub mod HolderLemmas
 pub mod ChairLemmas
 pub mod NoteLemmas
+pub mod WaitLemmas
+pub mod FreshLemmas
+pub mod OpeningLemmas
+pub mod CloseLemmas
