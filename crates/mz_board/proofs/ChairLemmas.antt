@@ -66,7 +66,7 @@ module _ {T E S : Type 0} (story : Ghosts T E S) where
     pub takes : (table : TableId) → Takes story (chair_of table m.0) x × (chair_of table m₂.0 ≡ with_turn (chair_of table m.0) (story.entries x))
     takes table = (
       subst (λ y. Takes story (chair_of table m.0) y) value_is (record { setting_is = won.setting_is; learns = learns table m.0 (story.entries won.value) ok.view won.teaches; reads = won.reads; owners = won.owners; few = won.few }),
-      ap (chair_of table) view_is,
+      ap (chair_of table) view_is ∙ (let none = empty_hand number front m ok idle in λ i. record (chair_of table (taken_view m.0 (story.entries x))) { post = record m.0.post { reached = length (story.entries x); appended = none.appended i; owes = none.owes i } }),
     )
 
     hand_is : m₂.1 ≡ (0, None) ∷ []
@@ -136,7 +136,7 @@ module _ {T E S : Type 0} (story : Ghosts T E S) where
         ended = e₃ ∙ ap (λ (x : M). (released_view x.0, rest x.1)) home
 
         pub ended_chair : chair_of table m₃.0 ≡ without_turn (chair_of table m.0)
-        ended_chair = ap (λ (x : M). chair_of table x.0) ended
+        ended_chair = ap (λ (x : M). chair_of table x.0) ended ∙ λ i. record (chair_of table (released_view (published_view m.0))) { post = record m.0.post { appended = false; owes = ends.paid i } }
 
         pub ended_ok : IsChair number None m₃
         ended_ok = subst (IsChair number None) (sym ended) (record {

@@ -30,7 +30,7 @@ module _ {X : Type 0} where
 
 -- one more chair
 pub fresh_more : {E S : Type 0} (lock : BoardId S) (n : ℕ) (chairs chairs' : List (ChairState E S)) (x : ChairState E S) → AreFresh lock n chairs → x ≡ fresh_chair lock n → chairs' ≡ chairs ++ x ∷ [] → AreFresh lock (n + 1) chairs'
-fresh_more lock list n chairs chairs' x f is more = let count = f.count in record {
+fresh_more lock n chairs chairs' x f is more = let count = f.count in record {
   count = omega (arith, ap length more, length-append chairs (x ∷ []));
   each = λ k lt. ap (λ l. slice_get l k) more ∙ dite (ℕ_discrete k n) (λ e. get_end chairs x k (e ∙ sym count) ∙ ap Some (is ∙ ap (fresh_chair lock) (sym e)))
       (λ ne. get_before chairs x k (omega arith) ∙ f.each k (omega (arith, ne)));
@@ -38,7 +38,7 @@ fresh_more lock list n chairs chairs' x f is more = let count = f.count in recor
 
 -- the last chair comes off
 pub fresh_less : {E S : Type 0} (lock : BoardId S) (n : ℕ) (chairs rest : List (ChairState E S)) (x : ChairState E S) → AreFresh lock (suc n) chairs → chairs ≡ rest ++ x ∷ [] → (x ≡ fresh_chair lock n) × AreFresh lock n rest
-fresh_less lock list n chairs rest x f is = let count = f.count in let long : length rest ≡ n = omega (arith, ap length is, length-append rest (x ∷ [])) in
+fresh_less lock n chairs rest x f is = let count = f.count in let long : length rest ≡ n = omega (arith, ap length is, length-append rest (x ∷ [])) in
     let here : slice_get (rest ++ x ∷ []) n ≡ Some (fresh_chair lock n) = ap (λ l. slice_get l n) (sym is) ∙ f.each n (omega arith) in
     let last : Some x ≡ Some (fresh_chair lock n) = sym (get_end rest x n (sym long)) ∙ here in
     let same : x ≡ fresh_chair lock n = cc in

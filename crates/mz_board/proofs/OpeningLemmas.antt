@@ -52,26 +52,27 @@ module _ {E : Type 0} where
   all_first P (k ∷ ks) any all = All-cons P k [] (All-head P k ks all) (All-nil P)
 
 -- one number is dealt
-module _ {E S : Type 0} (lock : BoardId S) where
-  abbrev none_yet : List E
-  none_yet = []
-
+module _ {S : Type 0} (lock : BoardId S) where
   left_over : (n : ℕ) → n < lock.seats → (m : ℕ) × (lock.seats - n ≡ suc m) × (lock.seats - (n + 1) ≡ m)
   left_over n lt = (lock.seats - (n + 1), omega arith, refl)
 
-  pub deal_left : (n : ℕ) → n < lock.seats → dealing_view (dealt_to lock n) ≡ dealt_to lock (n + 1)
-  deal_left n lt = let m = left_over n lt in let k : others_of (kept_from n (lock.seats - n) none_yet) ≡ kept_from (n + 1) (lock.seats - (n + 1)) none_yet = ap (λ x. others_of (kept_from n x none_yet)) m.1 ∙ (ap (λ x. kept_from x m.0 none_yet) (let e : suc n ≡ n + 1 = omega arith in e) ∙ ap (λ x. kept_from (n + 1) x none_yet) (sym m.2)) in
+module _ {S : Type 0} (E : Type 0) (lock : BoardId S) where
+  abbrev none_yet : List E
+  none_yet = []
+
+  pub deal_left : (n : ℕ) → n < lock.seats → dealing_view {E = E} (dealt_to lock n) ≡ dealt_to lock (n + 1)
+  deal_left n lt = let m = left_over lock n lt in let k : others_of (kept_from n (lock.seats - n) none_yet) ≡ kept_from (n + 1) (lock.seats - (n + 1)) none_yet = ap (λ x. others_of (kept_from n x none_yet)) m.1 ∙ (ap (λ x. kept_from x m.0 none_yet) (let e : suc n ≡ n + 1 = omega arith in e) ∙ ap (λ x. kept_from (n + 1) x none_yet) (sym m.2)) in
       λ i. record (dealt_to lock n) { kept = k i }
 
-  pub deal_right : (n : ℕ) → n < lock.seats → dealt_view (dealt_to lock n) ≡ record (dealt_to lock n) { number = n; kept = (n, none_yet) ∷ [] }
-  deal_right n lt = let m = left_over n lt in let a : number_of (kept_from n (lock.seats - n) none_yet) ≡ n = ap (λ x. number_of (kept_from n x none_yet)) m.1 in let b : own_of (kept_from n (lock.seats - n) none_yet) ≡ none_yet = ap (λ x. own_of (kept_from n x none_yet)) m.1 in
+  pub deal_right : (n : ℕ) → n < lock.seats → dealt_view {E = E} (dealt_to lock n) ≡ record (dealt_to lock n) { number = n; kept = (n, none_yet) ∷ [] }
+  deal_right n lt = let m = left_over lock n lt in let a : number_of (kept_from n (lock.seats - n) none_yet) ≡ n = ap (λ x. number_of (kept_from n x none_yet)) m.1 in let b : own_of (kept_from n (lock.seats - n) none_yet) ≡ none_yet = ap (λ x. own_of (kept_from n x none_yet)) m.1 in
       λ i. record (dealt_to lock n) { number = a i; kept = (a i, b i) ∷ [] }
 
   pub deal_some : (n : ℕ) → n < lock.seats → 0 < length (kept_from n (lock.seats - n) none_yet)
-  deal_some n lt = let m = left_over n lt in omega (arith, ap (λ x. length (kept_from n x none_yet)) m.1)
+  deal_some n lt = let m = left_over lock n lt in omega (arith, ap (λ x. length (kept_from n x none_yet)) m.1)
 
   pub deal_apart : (n : ℕ) → n < lock.seats → Keeps (number_of (kept_from n (lock.seats - n) none_yet)) (others_of (kept_from n (lock.seats - n) none_yet)) → ⊥
-  deal_apart n lt h = let m = left_over n lt in let t : Keeps n (kept_from (suc n) m.0 none_yet) = subst (λ x. Keeps (number_of (kept_from n x none_yet)) (others_of (kept_from n x none_yet))) m.1 h in let r = keeps_above n (suc n) m.0 list t in omega arith
+  deal_apart n lt h = let m = left_over lock n lt in let t : Keeps n (kept_from (suc n) m.0 none_yet) = subst (λ x. Keeps (number_of (kept_from n x none_yet)) (others_of (kept_from n x none_yet))) m.1 h in let r = keeps_above n (suc n) m.0 list t in omega arith
 
 module _ {V : Type 0} where
   only : (F : V → Type 0) (a : V) → F a → (i : ℕ) (v : V) → get_elem? (a ∷ []) i ≡ some v → F v
@@ -104,7 +105,7 @@ module _ {T E S : Type 0} (story : Ghosts T E S) where
         }
 
     pub seat_deals : (id : ℕ) (v : View E S) (lock : BoardId S) (n : ℕ) → v ≡ dealt_to lock n → n < lock.seats → Splits (Rule story fixed) id v (dealing_view v) (dealt_view v)
-    seat_deals id v lock n is lt = subst (λ x. Splits (Rule story fixed) id x (dealing_view x) (dealt_view x)) (sym is) (deals id (dealt_to lock n) (deal_some lock n lt) (deal_apart lock n lt) refl)
+    seat_deals id v lock n is lt = subst (λ x. Splits (Rule story fixed) id x (dealing_view x) (dealt_view x)) (sym is) (deals id (dealt_to lock n) (deal_some E lock n lt) (deal_apart E lock n lt) refl)
 
     first_kept : (k m : ℕ) → k + m ≤ fixed.seats → All (Kept story fixed []) (kept_from k m [])
     first_kept k zero le = All-nil (Kept story fixed [])
@@ -158,7 +159,7 @@ module _ {T E S : Type 0} (lock : BoardId S) (n : ℕ) (lt : n < lock.seats) (me
   new_view = record (dealt_to lock n) { number = n; kept = (n, []) ∷ [] }
 
   pub here : me ≡ (new_view, [])
-  here = is ∙ ap (λ v. (v, [])) (deal_right lock n lt)
+  here = is ∙ ap (λ v. (v, [])) (deal_right E lock n lt)
 
   pub dealt_ok : IsChair n None me
   dealt_ok = subst (IsChair n None) (sym here) (record {

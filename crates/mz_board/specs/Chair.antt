@@ -60,9 +60,9 @@ pub record AreFresh {E S : Type 0} (lock : BoardId S) (seats : ℕ) (chairs : Li
   pub count : length chairs ≡ seats
   pub each : (number : ℕ) → number < seats → slice_get chairs number ≡ Some (fresh_chair lock number)
 
--- after a take the chair has seen just the whole list, under its number too
+-- after a take the chair has seen just the whole list, under its number too, and has appended nothing yet
 abbrev pub with_turn : {E S : Type 0} → ChairState E S → List E → ChairState E S
-with_turn chair list = record chair { seen = list; own = list; told = []; taken = Some list; post = record chair.post { reached = length list } }
+with_turn chair list = record chair { seen = list; own = list; told = []; taken = Some list; post = record chair.post { reached = length list; appended = false; owes = [] } }
 
 -- what a take gives: the value has the chair's setting, and its list goes on from what the chair knew and has read
 pub record Takes {T E S : Type 0} (story : Ghosts T E S) (chair : ChairState E S) (value : T) : Type 0 where
@@ -127,7 +127,7 @@ pub record EndsTurn {E S : Type 0} (chair : ChairState E S) (list : List E) : Ty
   pub whole : list ≡ chair.seen
 
 abbrev pub without_turn : {E S : Type 0} → ChairState E S → ChairState E S
-without_turn chair = record chair { taken = None; post = record chair.post { appended = false } }
+without_turn chair = record chair { taken = None; post = record chair.post { appended = false; owes = [] } }
 
 -- what was seen is also seen under the chair's number
 abbrev pub counted : {E S : Type 0} → ChairState E S → ChairState E S
