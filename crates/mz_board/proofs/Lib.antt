@@ -11,3 +11,4 @@ pub mod WaitLemmas
 pub mod FreshLemmas
 pub mod OpeningLemmas
 pub mod CloseLemmas
+pub mod CrossingLemmas

@@ -72,7 +72,7 @@ module _ {S : Type 0} (E : Type 0) (lock : BoardId S) where
   deal_some n lt = let m = left_over lock n lt in omega (arith, ap (λ x. length (kept_from n x none_yet)) m.1)
 
   pub deal_apart : (n : ℕ) → n < lock.seats → Keeps (number_of (kept_from n (lock.seats - n) none_yet)) (others_of (kept_from n (lock.seats - n) none_yet)) → ⊥
-  deal_apart n lt h = let m = left_over lock n lt in let t : Keeps n (kept_from (suc n) m.0 none_yet) = subst (λ x. Keeps (number_of (kept_from n x none_yet)) (others_of (kept_from n x none_yet))) m.1 h in let r = keeps_above n (suc n) m.0 list t in omega arith
+  deal_apart n lt h = let m = left_over lock n lt in let t : Keeps n (kept_from (suc n) m.0 none_yet) = subst (λ x. Keeps (number_of (kept_from n x none_yet)) (others_of (kept_from n x none_yet))) m.1 h in let r = keeps_above n (suc n) m.0 none_yet t in omega arith
 
 module _ {V : Type 0} where
   only : (F : V → Type 0) (a : V) → F a → (i : ℕ) (v : V) → get_elem? (a ∷ []) i ≡ some v → F v
