@@ -19,3 +19,6 @@ pub use board::Board;
 pub use chair::Chair;
 pub use note::Note;
 pub use story::Story;
+
+#[cfg(test)]
+mod tests;
