@@ -1,5 +1,5 @@
 //! Turns and loads as their callers make them, with memory enough.
-ghost use Rattle.std.specs.Prelude.{◌≡◌, ◌×◌, ◌<◌, ◌≤◌, ◌++◌, ℕ, List, [], ◌∷◌, length, true, false, Some, None, IfOk, IfSome, vec_len, slice_index_or};
+ghost use Rattle.std.specs.Prelude.{◌≡◌, ◌<◌, ◌≤◌, ◌++◌, ℕ, List, [], ◌∷◌, length, true, false, Some, None, IfOk, IfSome, vec_len, slice_index_or};
 ghost use Rattle.std.specs.List.{All};
 ghost use Rattle.mz_board.specs.Chair.{AreFresh};
 
@@ -147,18 +147,20 @@ fn last_chair(board: &Board<Log>, mut chairs: Vec<Chair<Log>>) -> Option<Chair<L
     chairs.pop()
 }
 
-/// Eight threads write 1,000 lines, each its share, while two load: the items at the end, and the log.
+/// Eight threads write 1,000 lines, each its share, while two load: the log, and whether each item has its last value.
 fn written_by_eight<R: Threads + Wait + Sync>(
     rt: &R,
     alloc: Global,
-) -> Result<Option<([u64; 4], Log)>, NoMemory> {
+) -> Result<Option<(Log, bool)>, NoMemory> {
     let (board, chairs) = Board::open(alloc, Log::new(alloc, 7), &WORDS, 10)?;
     let chairs = use_all(rt, &board, chairs)?;
     let Some(mut chair) = last_chair(&board, chairs) else {
         return Ok(None);
     };
     let values = load_items(&board, &mut chair);
-    Ok(Some((values, board.take(rt, &mut chair))))
+    let log = board.take(rt, &mut chair);
+    let last = log.last_values();
+    Ok(Some((log, values == last)))
 }
 
 /// The two chairs of a board, in their order.
@@ -272,11 +274,11 @@ fn length_through_a_board<T: Story + Send + Drop>(alloc: Global, value: T) -> Re
 
 #[test]
 fn eight_threads_lose_no_line(rt: HostRuntime) -> Result<(), Fail> {
-    let Some((values, log)) = written_by_eight(&rt, rt.alloc())? else {
+    let Some((log, same)) = written_by_eight(&rt, rt.alloc())? else {
         return Ok(());
     };
     assert_eq!(rt; log.lines_in_order(), Some(1000));
-    assert_eq!(rt; values, log.last_values());
+    assert!(rt; same);
     assert_eq!(rt; log.name(), 7);
     Ok(())
 }
