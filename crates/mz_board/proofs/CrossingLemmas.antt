@@ -18,14 +18,34 @@ use Rattle.mz_board.specs.contracts.note.Note as Note
 use Rattle.mz_board.specs.contracts.board.Board as Board
 
 seat_send : (S V : RattleType) → IsSend S → IsSend (Seat.the_row S V)
-seat_send S V s = record { owned = λ d vs. ((λ vss. (tt, ((λ uss. (tt, tt)), tt))), seat_keyless S s V.coded.code d.table_id d.id d.me); leaving = λ k f vs. tt }
+seat_send S V s = record {
+  owned = λ d vs. (
+    (λ vss. (tt, ((λ uss. (tt, tt)), tt))),
+    seat_keyless S s V.coded.code d.table_id d.id d.me,
+  );
+  leaving = λ k f vs. tt;
+}
 
-shared_send : (S V K P : RattleType) (g : rule.Ghosts P.Denot S.Denot V.Denot K.Denot) → IsSend S → IsSend (Shared.the_row S V K P g)
-shared_send S V K P g s = record { owned = λ d vs. ((λ vss. (tt, (tt, (tt, ((λ uss. (tt, tt)), tt))))), owns_keyless S s V.coded.code d.table_id (g.holds d.key) d.words d.slots); leaving = λ k f vs. tt }
+shared_send : (S V K P : RattleType) (g : rule.Ghosts P.Denot S.Denot V.Denot K.Denot) → IsSend S
+    → IsSend (Shared.the_row S V K P g)
+shared_send S V K P g s = record {
+  owned = λ d vs. (
+    (λ vss. (tt, (tt, (tt, ((λ uss. (tt, tt)), tt))))),
+    owns_keyless S s V.coded.code d.table_id (g.holds d.key) d.words d.slots,
+  );
+  leaving = λ k f vs. tt;
+}
 
-shared_sync : (S V K P : RattleType) (g : rule.Ghosts P.Denot S.Denot V.Denot K.Denot) → IsSend S → IsSync (Shared.the_row S V K P g)
-shared_sync S V K P g s = let fields : IsSync (Struct (shape (Shared.the_type S V K P g))) = search sendable depth 20 in
-    record { shared = λ d b o ν. (fields.shared (d.words, (d.slots, (tt, tt))) b o ν, shares_keyless S s V.coded.code d.table_id (g.holds d.key) d.words d.slots ν) }
+shared_sync : (S V K P : RattleType) (g : rule.Ghosts P.Denot S.Denot V.Denot K.Denot) → IsSend S
+    → IsSync (Shared.the_row S V K P g)
+shared_sync S V K P g s = let fields : IsSync (Struct (shape (Shared.the_type S V K P g))) = search sendable depth 20
+    in
+    record {
+      shared = λ d b o ν. (
+        fields.shared (d.words, (d.slots, (tt, tt))) b o ν,
+        shares_keyless S s V.coded.code d.table_id (g.holds d.key) d.words d.slots ν,
+      );
+    }
 
 pub chair_send : (T E S : RattleType) (g : Ghosts T.Denot E.Denot S.Denot) → IsSend T → IsSend (Chair.the_row T E S g)
 chair_send T E S g s = search (sendable, crosses, seat_send) depth 20
@@ -37,7 +57,10 @@ lease_send : (T : RattleType) → IsSend (Lease.the_row T Heap.the_row ghosts)
 lease_send T = right_send T Heap.the_row ghosts (record { frees = frees.frees })
 
 lease_sync : (T : RattleType) → IsSync (Lease.the_row T Heap.the_row ghosts)
-lease_sync T = record { shared = λ d b o ν q. part_keyless (Lease.the_row T Heap.the_row ghosts) (lease_send T) q d b o }
+lease_sync T = record {
+  shared = λ d b o ν q. part_keyless (Lease.the_row T Heap.the_row ghosts) (lease_send T) q d b
+      o;
+}
 
 pub board_sync : (T E S : RattleType) (g : Ghosts T.Denot E.Denot S.Denot) → IsSend T → IsSync (Board.the_row T E S g)
 board_sync T E S g s = search (sendable, crosses, shared_sync, lease_sync) depth 30

@@ -30,7 +30,8 @@ pub record ChairState (E S : Type 0) : Type 0 where
   -- how many tries for the lock failed, and the lock word that the last of these found
   pub tries : ℕ
   pub found : ℕ
-  -- how many entries it has seen, what it owes, the last front that it loaded, with the items since, and how many fronts
+  -- how many entries it has seen, what it owes, the last front that it loaded, with the items since, and how many
+  -- fronts it loaded
   pub post : Post
 
 pub record NoteState (E S : Type 0) : Type 0 where
@@ -38,22 +39,34 @@ pub record NoteState (E S : Type 0) : Type 0 where
   pub seen : List E
   pub reached : ℕ
 
--- the list begins with what the chair has seen, and what was added is not the chair's; it begins with what joins brought
+-- the list begins with what the chair has seen, and what was added is not the chair's; it begins with what joins
+-- brought
 pub record Learns {E S : Type 0} (owner : E → ℕ) (chair : ChairState E S) (list : List E) : Type 0 where
   pub seen : GrewByOthers owner chair.number chair.seen list
   pub own : GrewByOthers owner chair.number chair.own list
   pub told : All (λ brought. Begins brought list) chair.told
 
--- what was read of the published words goes for the list: it has at least the entries that were seen, and each item that was
--- loaded has its value after the list, or was written since the front
-pub record Reads {E : Type 0} (writes : E → List (ℕ × ℕ)) (opening : List ℕ) (post : Post) (list : List E) : Type 0 where
+-- what was read of the published words goes for the list: it has at least as many entries as were seen, and each item
+-- that was loaded has this value after the list, or an entry at the front or later writes it
+pub record Reads {E : Type 0} (writes : E
+    → List (ℕ × ℕ)) (opening : List ℕ) (post : Post) (list : List E) : Type 0 where
   pub reached : post.reached ≤ length list
   pub front : (front : ℕ) → post.front ≡ Some front → front ≤ length list
   pub items : (front : ℕ) → post.front ≡ Some front → All (ReadOk writes front opening list) post.items
 
 -- a chair at the opening: it has seen nothing, and holds nothing
 abbrev pub fresh_chair : {E S : Type 0} → BoardId S → ℕ → ChairState E S
-fresh_chair lock number = record { lock = lock; number = number; seen = []; own = []; told = []; taken = None; tries = 0; found = 0; post = new_post 0 }
+fresh_chair lock number = record {
+  lock = lock;
+  number = number;
+  seen = [];
+  own = [];
+  told = [];
+  taken = None;
+  tries = 0;
+  found = 0;
+  post = new_post 0;
+}
 
 -- so many chairs, numbered in order, as at the opening
 pub record AreFresh {E S : Type 0} (lock : BoardId S) (seats : ℕ) (chairs : List (ChairState E S)) : Type 0 where
@@ -62,7 +75,13 @@ pub record AreFresh {E S : Type 0} (lock : BoardId S) (seats : ℕ) (chairs : Li
 
 -- after a take the chair has seen just the whole list, under its number too, and has appended nothing yet
 abbrev pub with_turn : {E S : Type 0} → ChairState E S → List E → ChairState E S
-with_turn chair list = record chair { seen = list; own = list; told = []; taken = Some list; post = record chair.post { reached = length list; appended = false; owes = [] } }
+with_turn chair list = record chair {
+  seen = list;
+  own = list;
+  told = [];
+  taken = Some list;
+  post = record chair.post { reached = length list; appended = false; owes = [] };
+}
 
 -- what a take gives: the value has the chair's setting, and its list goes on from what the chair knew and has read
 pub record Takes {T E S : Type 0} (story : Ghosts T E S) (chair : ChairState E S) (value : T) : Type 0 where
@@ -82,7 +101,8 @@ pub record FoundAnother {E S : Type 0} (chair : ChairState E S) (word : ℕ) : T
 
 -- what was found changes only with a failed try, and then the last of these found another chair's turn
 abbrev pub FailedTries : {E S : Type 0} → ChairState E S → ChairState E S → Type 0
-FailedTries old new = ((new.tries ≡ old.tries) × (new.found ≡ old.found)) ⊎ ((old.tries < new.tries) × FoundAnother old new.found)
+FailedTries old new = ((new.tries ≡ old.tries) × (new.found ≡ old.found)) ⊎ ((old.tries < new.tries)
+    × FoundAnother old new.found)
 
 -- a take after some failed tries: the chair holds the turn
 pub record TookTurn {E S : Type 0} (old new : ChairState E S) (list : List E) : Type 0 where
@@ -98,9 +118,11 @@ pub record Misses {E S : Type 0} (old new : ChairState E S) (other : ℕ) : Type
 
 -- an entry writes only items of the board, with values that they may have
 abbrev pub Fitting : {T E S : Type 0} → Ghosts T E S → S → List ℕ → E → Type 0
-Fitting story setting opening entry = All (λ (w : ℕ × ℕ). (w.0 < length opening) × (story.may_have setting w.0 w.1 ≡ true)) (story.writes entry)
+Fitting story setting opening entry = All (λ (w : ℕ × ℕ). (w.0 < length opening)
+    × (story.may_have setting w.0 w.1 ≡ true)) (story.writes entry)
 
--- the chair holds the turn and has appended nothing in it, and the value's list has one entry more, of the chair's number
+-- the chair holds the turn and has appended nothing in it, and the value's list has one entry more, of the chair's
+-- number
 pub record MayAppend {T E S : Type 0} (story : Ghosts T E S) (chair : ChairState E S) (value : T) : Type 0 where
   pub taken : List E
   pub holds : chair.taken ≡ Some taken
@@ -113,7 +135,12 @@ pub record MayAppend {T E S : Type 0} (story : Ghosts T E S) (chair : ChairState
 
 -- the chair has then seen the longer list, and owes what the entry writes
 abbrev pub with_entry : {E S : Type 0} → ChairState E S → List E → List (ℕ × ℕ) → ChairState E S
-with_entry chair list owes = record chair { seen = list; own = list; taken = Some list; post = record chair.post { reached = length list; appended = true; owes = owes } }
+with_entry chair list owes = record chair {
+  seen = list;
+  own = list;
+  taken = Some list;
+  post = record chair.post { reached = length list; appended = true; owes = owes };
+}
 
 -- an item is no longer owed
 abbrev pub with_stored : {E S : Type 0} → ChairState E S → ℕ → ChairState E S
@@ -135,7 +162,14 @@ counted chair = record chair { own = chair.seen; told = [] }
 
 -- a front was loaded, and no item since
 abbrev pub with_front : {E S : Type 0} → ChairState E S → ℕ → ChairState E S
-with_front chair front = record chair { post = record chair.post { reached = front; front = Some front; items = []; fronts = chair.post.fronts + 1 } }
+with_front chair front = record chair {
+  post = record chair.post {
+    reached = front;
+    front = Some front;
+    items = [];
+    fronts = chair.post.fronts + 1;
+  };
+}
 
 abbrev pub with_item : {E S : Type 0} → ChairState E S → ℕ → ℕ → ChairState E S
 with_item chair item value = record chair { post = record chair.post { items = (item, value) ∷ chair.post.items } }
@@ -145,9 +179,14 @@ note_of_chair chair = record { lock = chair.lock; seen = chair.seen; reached = c
 
 -- the longer list is then the seen one, and both are told; the number of entries seen is the greater one
 abbrev pub joined : {E S : Type 0} → ChairState E S → NoteState E S → ChairState E S
-joined chair note = record chair { seen = longer chair.seen note.seen; told = note.seen ∷ chair.seen ∷ chair.told; post = record chair.post { reached = max chair.post.reached note.reached } }
+joined chair note = record chair {
+  seen = longer chair.seen note.seen;
+  told = note.seen ∷ chair.seen ∷ chair.told;
+  post = record chair.post { reached = max chair.post.reached note.reached };
+}
 
 -- all chairs of the board, none of which holds the turn
 pub record AreAllOf {E S : Type 0} (lock : BoardId S) (chairs : List (ChairState E S)) : Type 0 where
   pub here : All (λ chair. (chair.lock ≡ lock) × (chair.taken ≡ None)) chairs
-  pub every : (number : ℕ) → number < lock.seats → (chair : ChairState E S) × Contains chairs chair × (chair.number ≡ number)
+  pub every : (number : ℕ) → number < lock.seats
+      → (chair : ChairState E S) × Contains chairs chair × (chair.number ≡ number)

@@ -1,5 +1,5 @@
--- The board's invariant, which holds between any two steps. The words are the lock word, the count word, the front word and a word for
--- each item, and one slot holds the value.
+-- The board's invariant, which holds between any two steps. The words are the lock word, the count word, the front word
+-- and a word for each item, and one slot holds the value.
 use Rattle.std.specs.Prelude.{◌≡◌, ◌≢◌, ◌+◌, ◌<◌, ◌≤◌, ◌⊎◌, ℕ, List, [], ◌∷◌, ◌++◌, length, slice_index_or, Bool, true, false, cond, Option, Some, None}
 use Rattle.std.specs.List.{All}
 use mathlib.Core.Option.{some, none}
@@ -39,7 +39,8 @@ words_of now = now.word ∷ length now.list ∷ now.front ∷ now.items
 abbrev pub more : Bool → ℕ
 more appended = cond appended 1 0
 
--- a view that holds the turn has seen and taken the whole list, and the lock word is its number and 1; it alone owes items
+-- a view that holds the turn has seen and taken the whole list, and the lock word is its number and 1; it alone owes
+-- items
 pub record HoldsTurn {E S : Type 0} (now : Stand E) (v : View E S) (taken : List E) : Type 0 where
   pub whole : taken ≡ now.list
   pub seen : v.seen ≡ now.list
@@ -65,7 +66,8 @@ module _ {T E S : Type 0} (story : Ghosts T E S) (fixed : Fixed S) (now : Stand 
     pub holds : (taken : List E) → v.taken ≡ Some taken → HoldsTurn now v taken
     pub idle : v.taken ≡ None → IsIdle now.front v
     pub front : (front : ℕ) → v.post.front ≡ Some front → front ≤ now.front
-    pub items : (front : ℕ) → v.post.front ≡ Some front → All (ReadOk story.writes front fixed.opening now.list) v.post.items
+    pub items : (front : ℕ) → v.post.front ≡ Some front
+        → All (ReadOk story.writes front fixed.opening now.list) v.post.items
 
   -- the value is at home, with the list and the setting, and all is published
   pub record IsHome (homes : List (maybe.Option (Option T))) : Type 0 where
@@ -82,9 +84,12 @@ module _ {T E S : Type 0} (story : Ghosts T E S) (fixed : Fixed S) (now : Stand 
     pub front : now.front ≤ length now.list
     pub width : length now.items ≡ length fixed.opening
     -- an item that isn't owed has its value after the list, and one that is owed is written by the last entry
-    pub values : (item : ℕ) → item < length fixed.opening → written item now.owed ≡ None → slice_index_or now.items item 0 ≡ value_after story.writes item (word_of fixed.opening item) now.list
-    pub owed : (item value : ℕ) → written item now.owed ≡ Some value → IsLastWrite story.writes now.front now.list item value
-    pub may : (item : ℕ) → item < length fixed.opening → story.may_have fixed.setting item (slice_index_or now.items item 0) ≡ true
+    pub values : (item : ℕ) → item < length fixed.opening → written item now.owed ≡ None
+        → slice_index_or now.items item 0 ≡ value_after story.writes item (word_of fixed.opening item) now.list
+    pub owed : (item value : ℕ) → written item now.owed ≡ Some value
+        → IsLastWrite story.writes now.front now.list item value
+    pub may : (item : ℕ) → item < length fixed.opening
+        → story.may_have fixed.setting item (slice_index_or now.items item 0) ≡ true
     pub fitting : All (Fitting story fixed.setting fixed.opening) now.list
 
 module _ {T E S : Type 0} (story : Ghosts T E S) (fixed : Fixed S) where
@@ -95,11 +100,14 @@ module _ {T E S : Type 0} (story : Ghosts T E S) (fixed : Fixed S) where
     pub owners : All (λ entry. story.owner entry < fixed.seats) now.list
     pub fits : (i : ℕ) (v : View E S) → get_elem? s.views i ≡ some v → Fits story fixed now v
     -- each chair's number is kept by exactly one view
-    pub once : (n i j : ℕ) (v w : View E S) → get_elem? s.views i ≡ some v → get_elem? s.views j ≡ some w → Keeps n v.kept → Keeps n w.kept → i ≡ j
-    pub every : (n : ℕ) → n < fixed.seats → (i : ℕ) × ((v : View E S) × (get_elem? s.views i ≡ some v) × Keeps n v.kept)
+    pub once : (n i j : ℕ) (v w : View E S) → get_elem? s.views i ≡ some v → get_elem? s.views j ≡ some w
+        → Keeps n v.kept → Keeps n w.kept → i ≡ j
+    pub every : (n : ℕ) → n < fixed.seats → (i : ℕ) × ((v : View E S) × (get_elem? s.views i ≡ some v)
+        × Keeps n v.kept)
     -- the value is at home where no view holds the turn, and else a view has it
     pub free : now.word ≡ 0 → IsHome story fixed now s.homes
-    pub held : now.word ≢ 0 → (s.homes ≡ none ∷ []) × ((i : ℕ) × ((v : View E S) × (get_elem? s.views i ≡ some v) × ((taken : List E) × (v.taken ≡ Some taken))))
+    pub held : now.word ≢ 0 → (s.homes ≡ none ∷ []) × ((i : ℕ)
+        × ((v : View E S) × (get_elem? s.views i ≡ some v) × ((taken : List E) × (v.taken ≡ Some taken))))
     pub posted : IsPosted story fixed now
 
 -- the view of a chair, which keeps its own number alone

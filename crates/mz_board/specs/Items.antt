@@ -33,7 +33,8 @@ module _ {E : Type 0} (writes : E → List (ℕ × ℕ)) where
 
   -- an item has the value that was read after the list, or was written since the front
   abbrev pub ReadOk : ℕ → List ℕ → List E → ℕ × ℕ → Type 0
-  ReadOk front opening list read = (value_after read.0 (word_of opening read.0) list ≡ read.1) ⊎ IsWrittenFrom front read.0 list
+  ReadOk front opening list read = (value_after read.0 (word_of opening read.0) list ≡ read.1) ⊎ IsWrittenFrom front
+      read.0 list
 
   -- the list ends with an entry, at the front, that writes the value into the item
   pub record IsLastWrite (front : ℕ) (list : List E) (item value : ℕ) : Type 0 where

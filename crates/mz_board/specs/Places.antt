@@ -12,17 +12,33 @@ board_of table seats setting opening = record { table = table; seats = seats; se
 
 module _ {E S : Type 0} where
   abbrev pub chair_of : TableId → View E S → ChairState E S
-  chair_of table v = record { lock = board_of table v.seats v.setting v.opening; number = v.number; seen = v.seen; own = own_of v.kept; told = v.told; taken = v.taken; tries = v.tries; found = v.found; post = v.post }
+  chair_of table v = record {
+    lock = board_of table v.seats v.setting v.opening;
+    number = v.number;
+    seen = v.seen;
+    own = own_of v.kept;
+    told = v.told;
+    taken = v.taken;
+    tries = v.tries;
+    found = v.found;
+    post = v.post;
+  }
 
   abbrev pub note_of : TableId → View E S → NoteState E S
-  note_of table v = record { lock = board_of table v.seats v.setting v.opening; seen = v.seen; reached = v.post.reached }
+  note_of table v = record {
+    lock = board_of table v.seats v.setting v.opening;
+    seen = v.seen;
+    reached = v.post.reached;
+  }
 
--- the slot is out with the chair that holds the turn, and empty until the value is put back; `front` is the one to publish
-pub record HasTaken {T E S : Type 0} (front : Option ℕ) (me : Me (Option T) (View E S)) (taken : List E) : Type 0 where
-  pub front_is : front ≡ cond me.0.post.appended (Some (length taken)) None
-  pub slot : me.1 ≡ (0, None) ∷ []
-  pub own : own_of me.0.kept ≡ taken
-  pub seen : me.0.seen ≡ taken
+-- the slot is out with the chair that holds the turn, and empty until the value is put back; `front` is the one to
+-- publish
+pub record HasTaken {T E S : Type 0} (front : Option ℕ) (me : Me (Option T) (View E S)) (taken : List E) : Type 0
+  where
+    pub front_is : front ≡ cond me.0.post.appended (Some (length taken)) None
+    pub slot : me.1 ≡ (0, None) ∷ []
+    pub own : own_of me.0.kept ≡ taken
+    pub seen : me.0.seen ≡ taken
 
 -- a chair without the turn holds no slot, owes nothing and has nothing to publish
 pub record HasNone {T E S : Type 0} (front : Option ℕ) (me : Me (Option T) (View E S)) : Type 0 where

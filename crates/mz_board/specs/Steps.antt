@@ -50,7 +50,9 @@ module _ {T E S : Type 0} (story : Ghosts T E S) where
   tried st m found m' = (found ≡ 0 → Won m m') × (found ≢ 0 → Missed m found m')
 
   abbrev pub counted : Tells
-  counted st m found m' = (m' ≡ (counted_view m.0, m.1)) × (m.0.post.reached ≤ found) × Teaches story.owner m.0 m.0.seen × ((taken : List E) → m.0.taken ≡ Some taken → (m.0.seen ≡ taken) × (found ≡ length taken))
+  counted st m found m' = (m' ≡ (counted_view m.0, m.1)) × (m.0.post.reached ≤ found)
+      × Teaches story.owner m.0 m.0.seen × ((taken : List E) → m.0.taken ≡ Some taken → (m.0.seen ≡ taken)
+      × (found ≡ length taken))
 
   -- the list has grown to this one
   abbrev pub appended : List E → Tells
@@ -67,11 +69,13 @@ module _ {T E S : Type 0} (story : Ghosts T E S) where
 
   -- the front is at least what was seen, and at most the most entries of a list
   abbrev pub fronted : Tells
-  fronted st m found m' = (m' ≡ (front_view m.0 found, m.1)) × (m.0.post.reached ≤ found) × ((s : S) → m.0.setting ≡ Some s → found ≤ story.most s)
+  fronted st m found m' = (m' ≡ (front_view m.0 found, m.1)) × (m.0.post.reached ≤ found)
+      × ((s : S) → m.0.setting ≡ Some s → found ≤ story.most s)
 
   -- the value is one that the item may have
   abbrev pub loaded : Tells
-  loaded st m found m' = (m' ≡ (item_view m.0 (st.word - first_item) found, m.1)) × ((s : S) → m.0.setting ≡ Some s → story.may_have s (st.word - first_item) found ≡ true)
+  loaded st m found m' = (m' ≡ (item_view m.0 (st.word - first_item) found, m.1))
+      × ((s : S) → m.0.setting ≡ Some s → story.may_have s (st.word - first_item) found ≡ true)
 
   -- a seat that knows nothing
   abbrev pub entered : Tells

@@ -26,4 +26,5 @@ module _ {T E S : Type 0} where
     pub taken : List E
     pub holds : me.0.taken ≡ Some taken
     pub paid : me.0.post.owes ≡ []
-    pub front_is : MatchOption front (me.0.post.appended ≡ false) (λ n. (me.0.post.appended ≡ true) × (n ≡ length me.0.seen))
+    pub front_is : MatchOption front (me.0.post.appended ≡ false) (λ n. (me.0.post.appended ≡ true)
+        × (n ≡ length me.0.seen))

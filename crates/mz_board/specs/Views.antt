@@ -33,14 +33,44 @@ new_post reached = record { reached = reached; appended = false; owes = []; fron
 module _ {E S : Type 0} where
   -- at the opening the first view keeps every number
   abbrev pub first_view : S → List ℕ → ℕ → View E S
-  first_view setting opening seats = record { number = 0; seats = seats; setting = Some setting; opening = opening; seen = []; kept = kept_from 0 seats []; told = []; taken = None; tries = 0; found = 0; post = new_post 0 }
+  first_view setting opening seats = record {
+    number = 0;
+    seats = seats;
+    setting = Some setting;
+    opening = opening;
+    seen = [];
+    kept = kept_from 0 seats [];
+    told = [];
+    taken = None;
+    tries = 0;
+    found = 0;
+    post = new_post 0;
+  }
 
   abbrev pub spent_view : View E S
-  spent_view = record { number = 0; seats = 0; setting = None; opening = []; seen = []; kept = []; told = []; taken = None; tries = 0; found = 0; post = new_post 0 }
+  spent_view = record {
+    number = 0;
+    seats = 0;
+    setting = None;
+    opening = [];
+    seen = [];
+    kept = [];
+    told = [];
+    taken = None;
+    tries = 0;
+    found = 0;
+    post = new_post 0;
+  }
 
   -- the whole list was seen, under the chair's number too, and the turn is held
   abbrev pub taken_view : View E S → List E → View E S
-  taken_view v list = record v { seen = list; kept = (v.number, list) ∷ []; told = []; taken = Some list; post = record v.post { reached = length list } }
+  taken_view v list = record v {
+    seen = list;
+    kept = (v.number, list) ∷ [];
+    told = [];
+    taken = Some list;
+    post = record v.post { reached = length list };
+  }
 
   abbrev pub missed_view : View E S → ℕ → View E S
   missed_view v word = record v { tries = v.tries + 1; found = word }
@@ -51,7 +81,12 @@ module _ {E S : Type 0} where
 
   -- the list has one entry more, whose writes are owed
   abbrev pub appended_view : View E S → List E → List (ℕ × ℕ) → View E S
-  appended_view v list owes = record v { seen = list; kept = (v.number, list) ∷ []; taken = Some list; post = record v.post { reached = length list; appended = true; owes = owes } }
+  appended_view v list owes = record v {
+    seen = list;
+    kept = (v.number, list) ∷ [];
+    taken = Some list;
+    post = record v.post { reached = length list; appended = true; owes = owes };
+  }
 
   -- an item is no longer owed
   abbrev pub stored_view : View E S → ℕ → View E S
@@ -65,18 +100,37 @@ module _ {E S : Type 0} where
 
   -- the front was loaded, and no item since
   abbrev pub front_view : View E S → ℕ → View E S
-  front_view v front = record v { post = record v.post { reached = front; front = Some front; items = []; fronts = v.post.fronts + 1 } }
+  front_view v front = record v {
+    post = record v.post {
+      reached = front;
+      front = Some front;
+      items = [];
+      fronts = v.post.fronts + 1;
+    };
+  }
 
   abbrev pub item_view : View E S → ℕ → ℕ → View E S
   item_view v item value = record v { post = record v.post { items = (item, value) ∷ v.post.items } }
 
   -- a copy of what was seen, which keeps no number
   abbrev pub copied_view : View E S → View E S
-  copied_view v = record v { kept = []; told = []; taken = None; tries = 0; found = 0; post = new_post v.post.reached }
+  copied_view v = record v {
+    kept = [];
+    told = [];
+    taken = None;
+    tries = 0;
+    found = 0;
+    post = new_post v.post.reached;
+  }
 
   -- the longer list and the greater number, with both lists told, and every number of both
   abbrev pub joined_view : View E S → View E S → View E S
-  joined_view v w = record v { seen = longer v.seen w.seen; kept = v.kept ++ w.kept; told = w.seen ∷ v.seen ∷ (v.told ++ w.told); post = record v.post { reached = max v.post.reached w.post.reached } }
+  joined_view v w = record v {
+    seen = longer v.seen w.seen;
+    kept = v.kept ++ w.kept;
+    told = w.seen ∷ v.seen ∷ (v.told ++ w.told);
+    post = record v.post { reached = max v.post.reached w.post.reached };
+  }
 
   -- one number is given over
   abbrev pub dealing_view : View E S → View E S

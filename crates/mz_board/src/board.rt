@@ -26,8 +26,8 @@ const FRONT: usize = 2;
 /// The word of the first item.
 const ITEMS: usize = 3;
 
-/// A value that chairs take in turn, with published words. Contracts see which board it is, how many chairs it has, its value's
-/// setting and the words at its opening.
+/// A value that chairs take in turn, with published words. Contracts see which board it is, how many chairs it has, its
+/// value's setting and the words that its items had at the opening.
 #[derive(Drop)]
 pub struct Board<T: Story + Drop> {
     table: BoardTable<T>,
@@ -41,9 +41,11 @@ impl<T: Story + Drop> Model for Board<T> {
 
     ghost use Rattle.mz_board.specs.Places.{board_of};
 
-    ghost view = { λ b. board_of b.table.shared.table_id b.table.shared.key.seats (Some (T.setting b.table.shared.key.value.value)) (drop 3 b.table.shared.key.words.value.items) };
+    ghost view = { λ b. board_of b.table.shared.table_id b.table.shared.key.seats
+        (Some (T.setting b.table.shared.key.value.value)) (drop 3 b.table.shared.key.words.value.items) };
 
-    ghost invariant = { λ b. (b.table.shared.table_id.words ≡ 3 + length (drop 3 b.table.shared.key.words.value.items)) × (b.table.shared.table_id.slots ≡ 1) };
+    ghost invariant = { λ b. (b.table.shared.table_id.words ≡ 3 + length (drop 3 b.table.shared.key.words.value.items))
+        × (b.table.shared.table_id.slots ≡ 1) };
 }
 
 // The words of the table: no turn, no entry, no front, and the items.
@@ -59,8 +61,8 @@ fn table_words(alloc: Global, words: &[u64]) -> Result<Vec<u64>, NoMemory>
 }
 
 impl<T: Story + Send + Drop> Board<T> {
-    /// A board over the value, whose list is empty, with its items' words and its chairs, numbered in order. The number of
-    /// seats is from 1 to 60, and each word is one that its item may have.
+    /// A board over the value, whose list is empty, with its items' words and its chairs, numbered in order. The number
+    /// of seats is from 1 to 60, and each word is one that its item may have.
     pub fn open(
         alloc: Global,
         value: T,
@@ -70,8 +72,10 @@ impl<T: Story + Send + Drop> Board<T> {
         requires some { 1 ≤ seats }
         requires few { seats ≤ 60 }
         requires empty { T.entries value ≡ [] }
-        requires may { (item : ℕ) → item < length words.now → T.may_have (T.setting value) item (slice_index_or words.now item 0) ≡ true }
-        ensures board { IfOk result (λ opened. (opened.0.seats ≡ seats) × (opened.0.setting ≡ Some (T.setting value)) × (opened.0.opening ≡ words.now)) }
+        requires may { (item : ℕ) → item < length words.now
+            → T.may_have (T.setting value) item (slice_index_or words.now item 0) ≡ true }
+        ensures board { IfOk result (λ opened. (opened.0.seats ≡ seats)
+            × (opened.0.setting ≡ Some (T.setting value)) × (opened.0.opening ≡ words.now)) }
         ensures chairs { IfOk result (λ opened. AreFresh opened.0 seats opened.1.items) }
     {
         let room = Vec::with_capacity(alloc, seats as usize)?;
@@ -91,8 +95,8 @@ impl<T: Story + Send + Drop> Board<T> {
         Ok((board, chairs))
     }
 
-    /// The value, once all chairs are back. Its list goes on from what each chair has seen, with no entry of that chair, and
-    /// has at least as many entries as each has seen.
+    /// The value, once all chairs are back. Its list goes on from what each chair has seen, with no entry of that chair,
+    /// and has at least as many entries as each has seen.
     pub fn close(self, chairs: Vec<Chair<T>>) -> T
         requires { AreAllOf self chairs.items }
         ensures setting { self.setting ≡ Some (T.setting result) }

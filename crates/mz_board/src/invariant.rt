@@ -6,7 +6,7 @@ use std::alloc::Global;
 use std::marker::PhantomData;
 use std::snapshot::Snapshot;
 
-/// What the table is told once: the value and the words at the opening, and how many chairs there are.
+/// What the table is told once: the value and its words at the opening, and how many chairs there are.
 #[derive(Drop)]
 pub(crate) struct Opening<T> {
     pub(crate) value: Snapshot<T>,
@@ -24,7 +24,8 @@ impl<T: Story> TableRule<Option<T>, View<T::Entry, T::Setting>, Opening<T>> for 
     ghost use Rattle.mz_board.specs.Invariant.{BoardHolds};
     ghost use Rattle.mz_board.specs.Views.{first_view};
 
-    ghost holds = { λ key. BoardHolds T.Story (record { setting = T.setting key.value.value; seats = key.seats; opening = drop 3 key.words.value.items }) };
+    ghost holds = { λ key. BoardHolds T.Story
+        (record { setting = T.setting key.value.value; seats = key.seats; opening = drop 3 key.words.value.items }) };
 
     ghost first = { λ key. first_view (T.setting key.value.value) (drop 3 key.words.value.items) key.seats };
 }

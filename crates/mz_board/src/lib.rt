@@ -1,8 +1,8 @@
-//! A board: a lock by turns with published words. Chairs take a value in turn, and each take gives it with all that was added
-//! before. The value is a list of entries with a setting, and each entry writes some items, whose words stand on the board.
-//! Whoever has a chair loads the front, which is how many entries are published, and items, without waiting for a turn: what
-//! it loads is what the items have after the list of its next take, but for those that later entries write.
-//! The device is this project's own.
+//! A board: a lock by turns with published words. Chairs take a value in turn, and each take gives it with all that
+//! was added before. The value is a list of entries with a setting, and each entry writes some items, whose words stand
+//! on the board. Whoever has a chair loads the front, which is how many entries are published, and items, without
+//! waiting for a turn: what it loads is what the items have after the list of its next take, but for those that entries
+//! at the front or later write. The device is this project's own.
 #![tactic(auto)]
 
 mod board;

@@ -24,8 +24,10 @@ const SHARE: u64 = 125;
 fn append_line(board: &Board<Log>, chair: &mut Chair<Log>, log: &Log, line: Line)
     requires lock { (chair.old.lock ≡ board.now) × (chair.old.lock.setting ≡ Some log.now.name) }
     requires turn { (chair.old.taken ≡ Some chair.old.seen) × (chair.old.post.appended ≡ false) }
-    requires line { (log.now.lines.items ≡ chair.old.seen ++ line ∷ []) × (length log.now.lines.items ≤ 1000) × (line.chair ≡ chair.old.number) × (line.item < length chair.old.lock.opening) }
-    ensures turn { (chair.new.taken ≡ Some log.now.lines.items) × (chair.new.seen ≡ log.now.lines.items) × (chair.new.post.owes ≡ []) }
+    requires line { (log.now.lines.items ≡ chair.old.seen ++ line ∷ []) × (length log.now.lines.items ≤ 1000)
+        × (line.chair ≡ chair.old.number) × (line.item < length chair.old.lock.opening) }
+    ensures turn { (chair.new.taken ≡ Some log.now.lines.items) × (chair.new.seen ≡ log.now.lines.items)
+        × (chair.new.post.owes ≡ []) }
     ensures same { (chair.new.lock ≡ chair.old.lock) × (chair.new.number ≡ chair.old.number) }
 {
     board.append(chair, log);
@@ -35,10 +37,13 @@ fn append_line(board: &Board<Log>, chair: &mut Chair<Log>, log: &Log, line: Line
 /// Writes a line of the log in a turn, where there is room.
 fn add_line(board: &Board<Log>, chair: &mut Chair<Log>, log: &mut Log, line: Line)
     requires lock { (chair.old.lock ≡ board.now) × (chair.old.lock.setting ≡ Some log.old.name) }
-    requires turn { (chair.old.taken ≡ Some log.old.lines.items) × (chair.old.seen ≡ log.old.lines.items) × (chair.old.post.appended ≡ false) × (chair.old.post.owes ≡ []) }
+    requires turn { (chair.old.taken ≡ Some log.old.lines.items) × (chair.old.seen ≡ log.old.lines.items)
+        × (chair.old.post.appended ≡ false) × (chair.old.post.owes ≡ []) }
     requires line { (line.chair ≡ chair.old.number) × (line.item < length chair.old.lock.opening) }
-    ensures turn { (chair.new.taken ≡ Some log.new.lines.items) × (chair.new.seen ≡ log.new.lines.items) × (chair.new.post.owes ≡ []) }
-    ensures same { (chair.new.lock ≡ chair.old.lock) × (chair.new.number ≡ chair.old.number) × (log.new.name ≡ log.old.name) }
+    ensures turn { (chair.new.taken ≡ Some log.new.lines.items) × (chair.new.seen ≡ log.new.lines.items)
+        × (chair.new.post.owes ≡ []) }
+    ensures same { (chair.new.lock ≡ chair.old.lock) × (chair.new.number ≡ chair.old.number)
+        × (log.new.name ≡ log.old.name) }
 {
     if log.write(line) {
         append_line(board, chair, log, line);
@@ -164,12 +169,10 @@ fn written_by_eight<R: Threads + Wait + Sync>(
 }
 
 /// The two chairs of a board, in their order.
-fn two_chairs(
-    board: &Board<Log>,
-    mut chairs: Vec<Chair<Log>>,
-) -> Option<(Chair<Log>, Chair<Log>)>
+fn two_chairs(board: &Board<Log>, mut chairs: Vec<Chair<Log>>) -> Option<(Chair<Log>, Chair<Log>)>
     requires { AreFresh board.now 2 chairs.items }
-    ensures { IfSome result (λ two. (two.0.lock ≡ board.now) × (two.0.taken ≡ None) × (two.1.lock ≡ board.now) × (two.1.taken ≡ None)) }
+    ensures { IfSome result (λ two. (two.0.lock ≡ board.now) × (two.0.taken ≡ None)
+        × (two.1.lock ≡ board.now) × (two.1.taken ≡ None)) }
 {
     let _ = board;
     let second = chairs.pop()?;
@@ -177,8 +180,8 @@ fn two_chairs(
     Some((first, second))
 }
 
-/// The front and the first item that a chair loads while another has the turn and has stored the item, and the front that it
-/// loads after the turn.
+/// The front and the first item that a chair loads while another has the turn and has stored the item, and the front
+/// that it loads after the turn.
 fn loaded_beside_a_turn<R: Wait>(
     rt: &R,
     alloc: Global,
@@ -303,6 +306,9 @@ fn a_note_reaches_another_thread(rt: HostRuntime) -> Result<(), Fail> {
 
 #[test]
 fn a_board_at_a_known_type(rt: HostRuntime) -> Result<(), Fail> {
-    assert_eq!(rt; length_through_a_board(rt.alloc(), Log::new(rt.alloc(), 7))?, 0);
+    assert_eq!(rt;
+        length_through_a_board(rt.alloc(), Log::new(rt.alloc(), 7))?,
+        0
+    );
     Ok(())
 }

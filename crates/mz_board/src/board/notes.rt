@@ -21,8 +21,8 @@ impl<T: Story + Send + Drop> Board<T> {
         }
     }
 
-    /// The chair has then seen the longer of the two lists and the greater of the two numbers of entries. Its next count tells
-    /// that this list begins with both.
+    /// The chair has then seen the longer of the two lists and the greater of the two numbers of entries. Its next count
+    /// tells that this list begins with both.
     pub fn join(&self, chair: &mut Chair<T>, note: Note<T>)
         requires lock { chair.old.lock ≡ self.now }
         requires idle { chair.old.taken ≡ None }

@@ -2,7 +2,8 @@
 ghost use Rattle.std.specs.Prelude.{◌≡◌, ◌<◌, ◌≤◌, ◌+◌, ◌^◌, ℕ, List, [], ◌∷◌, ◌++◌, length, Some, None, MatchResult};
 ghost use Rattle.mz_board.specs.Items.{written, last_writes};
 ghost use Rattle.mz_board.specs.Views.{appended_view, published_view};
-ghost use Rattle.mz_board.specs.Chair.{Learns, Takes, TookTurn, Misses, MayAppend, EndsTurn, with_turn, with_entry, with_stored, without_turn, counted};
+ghost use Rattle.mz_board.specs.Chair.{Learns, Takes, TookTurn, Misses, MayAppend, EndsTurn};
+ghost use Rattle.mz_board.specs.Chair.{with_turn, with_entry, with_stored, without_turn, counted};
 ghost use Rattle.mz_board.specs.Turn.{Grows, MayPublish};
 
 use super::{Board, COUNT, FRONT, ITEMS, LOCK};
@@ -48,12 +49,14 @@ impl<T: Story + Send + Drop> Board<T> {
         Ok(value.unwrap())
     }
 
-    /// Counts the entry that the value's list has more than the taken one. The chair then owes the items that it writes.
+    /// Counts the entry that the value's list has more than the taken one. The chair then owes the items that the entry
+    /// writes.
     pub fn append(&self, chair: &mut Chair<T>, value: &T)
         requires lock { chair.old.lock ≡ self.now }
         requires setting { chair.old.lock.setting ≡ Some (T.setting value.now) }
         requires may { MayAppend T.Story chair.old value.now }
-        ensures { (entry : T.Entry) → T.entries value.now ≡ chair.old.seen ++ entry ∷ [] → chair.new ≡ with_entry chair.old (T.entries value.now) (T.writes entry) }
+        ensures { (entry : T.Entry) → T.entries value.now ≡ chair.old.seen ++ entry ∷ []
+            → chair.new ≡ with_entry chair.old (T.entries value.now) (T.writes entry) }
     {
         let length = value.length();
         self.count_entry::<Brand>(&mut chair.seat, value, length);
@@ -62,11 +65,16 @@ impl<T: Story + Send + Drop> Board<T> {
 
     // Counts the last entry of the value's list, which has this length.
     fn count_entry<G: Growth<T::Entry>>(&self, seat: &mut Place<T>, value: &T, count: u64)
-        requires lock { (seat.old.table_id ≡ self.now.table) × (self.now.setting ≡ Some (T.setting value.now)) × (seat.old.me.0.opening ≡ self.now.opening) }
+        requires lock { (seat.old.table_id ≡ self.now.table) × (self.now.setting ≡ Some (T.setting value.now))
+            × (seat.old.me.0.opening ≡ self.now.opening) }
         requires list { (G.list ≡ T.entries value.now) × (count ≡ length (T.entries value.now)) }
         requires grows { Grows T.Story seat.old.me.0 (T.setting value.now) (T.entries value.now) }
         ensures seat { (seat.new.table_id ≡ seat.old.table_id) × (seat.new.id ≡ seat.old.id) }
-        ensures view { seat.new.me ≡ (appended_view seat.old.me.0 (T.entries value.now) (last_writes T.writes (T.entries value.now)), seat.old.me.1) }
+        ensures view { seat.new.me ≡ (
+          appended_view seat.old.me.0 (T.entries value.now)
+              (last_writes T.writes (T.entries value.now)),
+          seat.old.me.1,
+        ) }
     {
         self.table.shared.fetch_add::<Append<G, T>>(seat, COUNT, 1);
     }
@@ -77,7 +85,9 @@ impl<T: Story + Send + Drop> Board<T> {
         requires owes { written item chair.old.post.owes ≡ Some value }
         ensures { chair.new ≡ with_stored chair.old item }
     {
-        self.table.shared.swap::<StoreItem<T>>(&mut chair.seat, ITEMS + item as usize, value);
+        self.table
+            .shared
+            .swap::<StoreItem<T>>(&mut chair.seat, ITEMS + item as usize, value);
     }
 
     /// Gives the value back, and publishes the entry that was appended, if one was.
@@ -107,8 +117,8 @@ impl<T: Story + Send + Drop> Board<T> {
         }
     }
 
-    /// One load of the count, which is at least the number of entries that the chair has seen. The chair that has the turn
-    /// finds the length of its list.
+    /// One load of the count, which is at least the number of entries that the chair has seen. The chair that has the
+    /// turn finds the length of its list.
     pub fn count(&self, chair: &mut Chair<T>) -> u64
         requires { chair.old.lock ≡ self.now }
         ensures least { (chair.old.post.reached ≤ result) × (length chair.old.seen ≤ result) }

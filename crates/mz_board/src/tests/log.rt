@@ -62,7 +62,8 @@ impl Log {
     pub(super) fn write(&mut self, line: Line) -> bool
         ensures name { self.new.name ≡ self.old.name }
         ensures left { result ≡ false → self.new.lines.items ≡ self.old.lines.items }
-        ensures added { result ≡ true → (self.new.lines.items ≡ self.old.lines.items ++ line ∷ []) × (length self.new.lines.items ≤ 1000) }
+        ensures added { result ≡ true → (self.new.lines.items ≡ self.old.lines.items ++ line ∷ [])
+            × (length self.new.lines.items ≤ 1000) }
     {
         if self.lines.len() >= MOST {
             return false;
