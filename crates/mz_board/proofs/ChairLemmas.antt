@@ -1,7 +1,7 @@
 -- What a chair is sure of after each step of its turn.
 use Rattle.std.proofs.Common.{◌≡◌, ℕ, ◌<◌, ◌≤◌, List, [], ◌∷◌, ◌++◌, length, sym, refl, ap, ◌∙◌, subst, arith, length-append, cond, Bool, true, false, Option, Some, None, MatchOption}
 use Rattle.std.specs.List.{All}
-use Rattle.std.proofs.lemmas.List.Elements.{All-nil, All-head, All-weaker}
+use Rattle.std.proofs.lemmas.List.Elements.{All-nil, All-head}
 use Rattle.atomic_table.specs.Seated.{TableId}
 use Rattle.atomic_table.specs.Table.{Me, rest}
 use Rattle.mz_board.specs.declared.story.Story.{Ghosts}
@@ -11,12 +11,11 @@ use Rattle.mz_board.specs.Items.{written, without, last_writes}
 use Rattle.mz_board.specs.Views.{own_of, taken_view, appended_view, stored_view, published_view, released_view}
 use Rattle.mz_board.specs.Invariant.{IsChairView}
 use Rattle.mz_board.specs.Places.{IsChair, HasNone, HasTaken, chair_of}
-use Rattle.mz_board.specs.Chair.{ChairState, Learns, Takes, MayAppend, EndsTurn, Fitting, with_turn, with_entry, without_turn}
+use Rattle.mz_board.specs.Chair.{Learns, Takes, MayAppend, EndsTurn, with_turn, with_entry, without_turn}
 use Rattle.mz_board.specs.Turn.{Grows, MayPublish}
 use Rattle.mz_board.specs.Steps.{Teaches, Won}
 use Rattle.mz_board.proofs.SeenLemmas.{grew_later}
 use Rattle.mz_board.proofs.ItemLemmas.{without_all, last_of}
-use Rattle.mz_board.proofs.FitLemmas.{idle_not}
 
 module _ {T E S : Type 0} where
   pub empty_hand : (number : ℕ) (front : Option ℕ) (m : Me (Option T) (View E S)) → IsChair number front m

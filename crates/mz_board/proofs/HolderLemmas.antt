@@ -1,25 +1,24 @@
 -- The holder counts its entry, stores its items, publishes the front and gives the turn back.
-use Rattle.std.proofs.Common.{◌≡◌, ◌≢◌, ℕ, suc, ◌+◌, ◌-◌, ◌<◌, ◌≤◌, ◌^◌, ◌%◌, List, [], ◌∷◌, ◌++◌, length, get_or, set, sym, refl, ap, ◌∙◌, subst, inl, arith, append_assoc, length-append, cond, Bool, true, false, Option, Some, None, MatchOption}
+use Rattle.std.proofs.Common.{◌≡◌, ◌≢◌, ℕ, suc, ◌+◌, ◌-◌, ◌<◌, ◌≤◌, ◌^◌, ◌%◌, List, [], ◌∷◌, ◌++◌, length, get_or, set, sym, refl, ap, ◌∙◌, subst, inl, arith, length-append, true, false, Option, Some, None, MatchOption}
 use Rattle.std.specs.List.{All}
 use Rattle.std.proofs.lemmas.List.{get_or-set_same, get_or-set_other, length-set}
 use Rattle.std.proofs.lemmas.List.Elements.{All-nil, All-cons, All-push, All-weaker, All-head}
-use mathlib.Core.Logic.{dite}
 use native.Mathlib.Decide.{ℕ_discrete}
 use mathlib.Core.Option.{some, none}
 use lib.ListN.{get_elem?}
 use Rattle.atomic_table.specs.Table.{Me, Step, step, keeps, gives, Allows}
 use Rattle.mz_board.specs.declared.story.Story.{Ghosts}
 use Rattle.mz_board.specs.declared.view.View.{View}
-use Rattle.mz_board.specs.Seen.{Begins, GrewByOthers}
-use Rattle.mz_board.specs.Items.{written, without, word_of, value_after, ReadOk, IsLastWrite, last_writes}
+use Rattle.mz_board.specs.Seen.{Begins}
+use Rattle.mz_board.specs.Items.{written, without, word_of, value_after, ReadOk, last_writes}
 use Rattle.mz_board.specs.Views.{own_of, appended_view, stored_view, published_view, released_view}
-use Rattle.mz_board.specs.Invariant.{Keeps, Fixed, Stand, words_of, more, HoldsTurn, Fits, IsPosted, BoardHolds}
+use Rattle.mz_board.specs.Invariant.{Keeps, Fixed, Stand, words_of, more, Fits, IsPosted}
 use Rattle.mz_board.specs.Chair.{Fitting}
 use Rattle.mz_board.specs.Turn.{Grows, MayPublish}
 use Rattle.mz_board.specs.Steps.{appended, stored, published, released}
 use Rattle.mz_board.proofs.SeenLemmas.{begins_self, begins_more, grew_self, grew_push}
 use Rattle.mz_board.proofs.ViewLemmas.{each_set, once_set, has_set, set_in}
-use Rattle.mz_board.proofs.ItemLemmas.{some_number, written_all, without_other, without_same, value_kept, last_of, last_value, last_length, read_more, optional}
+use Rattle.mz_board.proofs.ItemLemmas.{written_all, without_other, without_same, value_kept, last_of, last_value, last_length, read_more, optional}
 use Rattle.mz_board.proofs.FitLemmas.{St, Rule, Kept, idle_not, all_keeps, only_kept, one_keeps, one_holder, fits_idle}
 
 module _ {E : Type 0} where

@@ -1,5 +1,5 @@
 -- Loads of the count, of the front and of an item.
-use Rattle.std.proofs.Common.{◌≡◌, ℕ, suc, ◌+◌, ◌-◌, ◌<◌, ◌≤◌, List, [], ◌∷◌, length, get_or, set, sym, refl, ap, ◌∙◌, subst, inl, inr, arith, true, Option, Some, None, MatchOption}
+use Rattle.std.proofs.Common.{◌≡◌, ℕ, suc, ◌+◌, ◌-◌, ◌<◌, ◌≤◌, List, [], length, get_or, set, sym, refl, ap, ◌∙◌, subst, inl, inr, arith, Option, Some, None, MatchOption}
 use Rattle.std.specs.List.{All}
 use Rattle.std.proofs.lemmas.List.{set-get_or}
 use Rattle.std.proofs.lemmas.List.Elements.{All-nil, All-cons}
@@ -8,14 +8,14 @@ use mathlib.Core.Option.{none}
 use Rattle.mz_board.specs.declared.story.Story.{Ghosts}
 use Rattle.mz_board.specs.declared.view.View.{View}
 use Rattle.mz_board.specs.Seen.{Begins, GrewByOthers}
-use Rattle.mz_board.specs.Items.{written, word_of, value_after, ReadOk}
+use Rattle.mz_board.specs.Items.{written, ReadOk}
 use Rattle.mz_board.specs.Views.{own_of, counted_view, front_view, item_view}
-use Rattle.mz_board.specs.Invariant.{Keeps, Fixed, Stand, words_of, Fits, IsPosted, BoardHolds, IsChairView}
+use Rattle.mz_board.specs.Invariant.{Keeps, Fixed, Stand, words_of, Fits, IsPosted, IsChairView}
 use Rattle.mz_board.specs.Places.{IsChair, HasNone, HasTaken}
 use Rattle.mz_board.specs.Steps.{Teaches, counted, fronted, loaded}
-use Rattle.mz_board.proofs.SeenLemmas.{begins_self, begins_length, begins_shorter, grew_later, grew_so_far}
+use Rattle.mz_board.proofs.SeenLemmas.{begins_self, begins_shorter, grew_later, grew_so_far}
 use Rattle.mz_board.proofs.ItemLemmas.{optional, written_last}
-use Rattle.mz_board.proofs.FitLemmas.{St, Rule, Kept, idle_not, only_kept, view_step}
+use Rattle.mz_board.proofs.FitLemmas.{Rule, Kept, idle_not, only_kept, view_step}
 
 module _ {T E S : Type 0} (story : Ghosts T E S) (fixed : Fixed S) where
   fits_counted : (now : Stand E) (v : View E S) → IsChairView v → Fits story fixed now v

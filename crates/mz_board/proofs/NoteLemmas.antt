@@ -1,5 +1,5 @@
 -- Views that are copied, that come, and that are joined.
-use Rattle.std.proofs.Common.{◌≡◌, ℕ, ◌<◌, ◌≤◌, max, List, [], ◌∷◌, ◌++◌, length, sym, refl, ap, ◌∙◌, subst, arith, append-nil, Option, Some, None, MatchOption}
+use Rattle.std.proofs.Common.{◌≡◌, ℕ, ◌≤◌, max, List, [], ◌∷◌, ◌++◌, length, sym, refl, ap, ◌∙◌, subst, arith, append-nil, Option, Some, None, MatchOption}
 use Rattle.std.specs.List.{All}
 use Rattle.std.proofs.Math.Nat.{le-max_left, le-max_right, max-le}
 use Rattle.std.proofs.lemmas.List.Elements.{All-nil, All-cons, All-append}
@@ -8,8 +8,7 @@ use Rattle.atomic_table.specs.Table.{Me, Step, Splits, Joins, Enters}
 use Rattle.atomic_table.proofs.Lists.{set_again}
 use Rattle.mz_board.specs.declared.story.Story.{Ghosts}
 use Rattle.mz_board.specs.declared.view.View.{View}
-use Rattle.mz_board.specs.Seen.{Begins, GrewByOthers, longer}
-use Rattle.mz_board.specs.Items.{ReadOk}
+use Rattle.mz_board.specs.Seen.{Begins, longer}
 use Rattle.mz_board.specs.Views.{own_of, copied_view, joined_view, spent_view}
 use Rattle.mz_board.specs.Invariant.{Keeps, Fixed, Stand, Fits, IsChairView}
 use Rattle.mz_board.specs.Places.{IsChair, HasNone, HasTaken, IsNote, chair_of, note_of}

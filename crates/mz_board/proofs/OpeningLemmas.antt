@@ -10,16 +10,15 @@ use Rattle.atomic_table.specs.Seated.{TableId}
 use Rattle.atomic_table.specs.Table.{Me, Splits, opening}
 use Rattle.mz_board.specs.declared.story.Story.{Ghosts}
 use Rattle.mz_board.specs.declared.view.View.{View}
-use Rattle.mz_board.specs.Seen.{Begins, GrewByOthers}
+use Rattle.mz_board.specs.Seen.{Begins}
 use Rattle.mz_board.specs.Views.{kept_from, others_of, number_of, own_of, first_view, dealing_view, dealt_view}
-use Rattle.mz_board.specs.Items.{ReadOk}
 use Rattle.mz_board.specs.Invariant.{Keeps, Fixed, Stand, Fits, BoardHolds}
 use Rattle.mz_board.specs.Places.{IsChair, chair_of}
 use Rattle.mz_board.specs.Chair.{BoardId, Fitting, fresh_chair}
 use Rattle.mz_board.specs.Gathering.{dealt_to}
 use Rattle.mz_board.proofs.SeenLemmas.{begins_self, grew_self}
 use Rattle.mz_board.proofs.ViewLemmas.{each_set, each_push, once_deal, has_deal}
-use Rattle.mz_board.proofs.FitLemmas.{St, Rule, Kept, idle_not}
+use Rattle.mz_board.proofs.FitLemmas.{Rule, Kept, idle_not}
 
 module _ {E : Type 0} where
   -- the numbers from k on are kept, and no smaller one

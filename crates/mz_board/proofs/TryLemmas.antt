@@ -1,18 +1,18 @@
 -- A try for the turn.
-use Rattle.std.proofs.Common.{◌≡◌, ◌≢◌, ℕ, ◌+◌, ◌<◌, ◌≤◌, eqb, List, [], ◌∷◌, length, get_or, set, sym, refl, ap, ◌∙◌, subst, inl, arith, cond, Bool, false, Option, Some, None, MatchOption}
+use Rattle.std.proofs.Common.{◌≡◌, ◌≢◌, ℕ, ◌+◌, ◌<◌, ◌≤◌, eqb, List, [], ◌∷◌, length, get_or, set, sym, refl, ap, ◌∙◌, subst, inl, arith, Option, Some, None, MatchOption}
 use Rattle.std.specs.List.{All}
 use Rattle.std.proofs.lemmas.List.Elements.{All-nil, All-cons}
 use mathlib.Core.Option.{some, none, some-injective}
 use lib.ListN.{get_elem?}
 use prog.Atomic.{either}
-use Rattle.atomic_table.specs.Table.{State, Me, Step, Act, keeps, takes, Valid, Allows, stepped, carried_after}
+use Rattle.atomic_table.specs.Table.{Me, Step, Act, keeps, takes, Valid, Allows, stepped, carried_after}
 use Rattle.atomic_table.proofs.Lists.{exchanged}
 use Rattle.mz_board.specs.declared.story.Story.{Ghosts}
 use Rattle.mz_board.specs.declared.view.View.{View}
-use Rattle.mz_board.specs.Seen.{Begins, GrewByOthers}
+use Rattle.mz_board.specs.Seen.{Begins}
 use Rattle.mz_board.specs.Items.{ReadOk}
 use Rattle.mz_board.specs.Views.{taken_view, missed_view}
-use Rattle.mz_board.specs.Invariant.{Keeps, Fixed, Stand, words_of, more, Fits, IsPosted, BoardHolds, IsChairView}
+use Rattle.mz_board.specs.Invariant.{Keeps, Fixed, Stand, words_of, more, Fits, IsPosted, IsChairView}
 use Rattle.mz_board.specs.Places.{IsChair, HasNone, HasTaken}
 use Rattle.mz_board.specs.Chair.{Reads}
 use Rattle.mz_board.specs.Steps.{Teaches, Won, Missed, tried}

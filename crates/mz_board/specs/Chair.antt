@@ -5,7 +5,7 @@ use Rattle.atomic_table.specs.Seated.{TableId}
 use Rattle.mz_board.specs.declared.post.Post.{Post}
 use Rattle.mz_board.specs.declared.story.Story.{Ghosts}
 use Rattle.mz_board.specs.Seen.{Begins, GrewByOthers, longer}
-use Rattle.mz_board.specs.Items.{written, without, ReadOk}
+use Rattle.mz_board.specs.Items.{without, ReadOk}
 use Rattle.mz_board.specs.Views.{new_post}
 
 -- which board it is, how many chairs it has, the setting of its value, and the words that its items had at the opening

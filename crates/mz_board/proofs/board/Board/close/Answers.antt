@@ -1,4 +1,4 @@
-use Rattle.std.proofs.Common.{ap, sym, ◌∙◌, subst, ◌<◌, ◌≤◌, drop, length, is_some}
+use Rattle.std.proofs.Common.{ap, sym, ◌∙◌, subst, ◌<◌, drop, length, is_some}
 use Rattle.std.specs.List.{All}
 use Rattle.mz_board.specs.Invariant.{Fixed}
 use Rattle.mz_board.proofs.CloseLemmas.{closes, out, out_setting, out_teaches, out_reached, out_owners}

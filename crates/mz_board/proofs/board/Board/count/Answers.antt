@@ -2,7 +2,7 @@ use Rattle.std.proofs.Common.{ap, sym, ◌∙◌, subst, arith}
 use mathlib.Core.Option.{none}
 use Rattle.atomic_table.specs.Table.{step}
 use Rattle.mz_board.specs.Chair.{Learns}
-use Rattle.mz_board.proofs.LookLemmas.{counts, counted_ok}
+use Rattle.mz_board.proofs.LookLemmas.{counts}
 use Rattle.mz_board.proofs.ChairLemmas.{learns}
 use Rattle.mz_board.proofs.board.Board.count.Goals as goal
 

@@ -1,10 +1,9 @@
-use Rattle.std.proofs.Common.{◌≡◌, ap, sym, ◌∙◌, subst, arith}
+use Rattle.std.proofs.Common.{ap, sym, ◌∙◌, subst, arith}
 use mathlib.Core.Option.{none}
 use Rattle.atomic_table.specs.Table.{step}
-use Rattle.mz_board.specs.Chair.{EndsTurn, without_turn}
-use Rattle.mz_board.specs.Places.{chair_of}
+use Rattle.mz_board.specs.Chair.{EndsTurn}
 use Rattle.mz_board.proofs.ItemLemmas.{same_setting}
-use Rattle.mz_board.proofs.ChairLemmas.{may_publish, home, ended_chair, ended_ok}
+use Rattle.mz_board.proofs.ChairLemmas.{home}
 use Rattle.mz_board.proofs.HolderLemmas.{releases_after}
 use Rattle.mz_board.proofs.board.Board.put_back.Goals as goal
 
