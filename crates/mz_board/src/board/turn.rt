@@ -70,11 +70,7 @@ impl<T: Story + Send + Drop> Board<T> {
         requires list { (G.list ≡ T.entries value.now) × (count ≡ length (T.entries value.now)) }
         requires grows { Grows T.Story seat.old.me.0 (T.setting value.now) (T.entries value.now) }
         ensures seat { (seat.new.table_id ≡ seat.old.table_id) × (seat.new.id ≡ seat.old.id) }
-        ensures view { seat.new.me ≡ (
-          appended_view seat.old.me.0 (T.entries value.now)
-              (last_writes T.writes (T.entries value.now)),
-          seat.old.me.1,
-        ) }
+        ensures view { seat.new.me ≡ (appended_view seat.old.me.0 G.list (last_writes T.writes G.list), seat.old.me.1) }
     {
         self.table.shared.fetch_add::<Append<G, T>>(seat, COUNT, 1);
     }
