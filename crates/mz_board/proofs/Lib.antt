@@ -1,0 +1,14 @@
+pub mod SeenLemmas
+pub mod ItemLemmas
+pub mod ViewLemmas
+pub mod FitLemmas
+pub mod TryLemmas
+pub mod LookLemmas
+pub mod HolderLemmas
+pub mod ChairLemmas
+pub mod NoteLemmas
+pub mod WaitLemmas
+pub mod FreshLemmas
+pub mod OpeningLemmas
+pub mod CloseLemmas
+pub mod CrossingLemmas

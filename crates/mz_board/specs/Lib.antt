@@ -1,0 +1,9 @@
+pub mod Seen
+pub mod Items
+pub mod Views
+pub mod Chair
+pub mod Invariant
+pub mod Steps
+pub mod Places
+pub mod Turn
+pub mod Gathering
