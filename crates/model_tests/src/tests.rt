@@ -1,4 +1,5 @@
 mod holders;
 mod moves;
 mod places;
+mod problems;
 mod scores;

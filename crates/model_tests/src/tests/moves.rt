@@ -4,11 +4,11 @@ ghost use Rattle.mz_model.specs.Parts.{unit_count};
 ghost use Rattle.mz_model.specs.Plans.{IsLegalPlan};
 ghost use Rattle.mz_delta.specs.Reading.{IsWellFormed};
 
+use super::problems::{lone_unit, three_units, three_zones};
 use mz_delta::{
     Filled, Judged, Reading, judge, judge_from, judge_zone, prepare, read_plan, totals_of,
 };
 use mz_draw::Draw;
-use mz_examples::{build_lone_unit, build_three_units, build_three_zones};
 use mz_model::{Plan, Problem};
 use mz_num::NoMemory;
 use std::alloc::Global;
@@ -131,7 +131,7 @@ fn by_before_in_three_zones(
     first: u8,
     second: u8,
 ) -> Result<Option<(Said, Said)>, NoMemory> {
-    let problem = build_three_zones(alloc)?;
+    let problem = three_zones(alloc)?;
     Ok(by_before(alloc, &problem, &[2, 1, 0], 2, first, second))
 }
 
@@ -140,7 +140,7 @@ fn by_draw_in_three_units(
     zones: &[u8],
     draw: Draw,
 ) -> Result<Option<(Named, Said)>, NoMemory> {
-    let problem = build_three_units(alloc)?;
+    let problem = three_units(alloc)?;
     Ok(by_draw(alloc, &problem, zones, draw))
 }
 
@@ -150,7 +150,7 @@ fn by_zone_in_three_units(
     unit: u32,
     zone: u8,
 ) -> Result<Option<Said>, NoMemory> {
-    let problem = build_three_units(alloc)?;
+    let problem = three_units(alloc)?;
     Ok(by_zone(alloc, &problem, zones, unit, zone))
 }
 
@@ -160,17 +160,17 @@ fn by_zone_in_three_zones(
     unit: u32,
     zone: u8,
 ) -> Result<Option<Said>, NoMemory> {
-    let problem = build_three_zones(alloc)?;
+    let problem = three_zones(alloc)?;
     Ok(by_zone(alloc, &problem, zones, unit, zone))
 }
 
 fn by_zone_alone(alloc: Global, zone: u8) -> Result<Option<Said>, NoMemory> {
-    let problem = build_lone_unit(alloc)?;
+    let problem = lone_unit(alloc)?;
     Ok(by_zone(alloc, &problem, &[0], 0, zone))
 }
 
 fn by_stale_in_three_units(alloc: Global, unit: u32, zone: u8) -> Result<Option<Said>, NoMemory> {
-    let problem = build_three_units(alloc)?;
+    let problem = three_units(alloc)?;
     Ok(by_stale(alloc, &problem, &[0, 0, 0], unit, zone))
 }
 

@@ -1,5 +1,5 @@
 //! What stands at the places of a problem, and the moves of its units.
-use mz_examples::{build_no_units, build_sixty_zones, build_three_units, build_three_zones};
+use super::problems::{no_units, sixty_zones, three_units, three_zones};
 use mz_model::Problem;
 use mz_num::NoMemory;
 use std::alloc::Global;
@@ -11,7 +11,7 @@ fn are_free(problem: &Problem, units: &[u32], counts: &[u8]) -> bool {
 }
 
 fn no_units_are_free(alloc: Global) -> Result<bool, NoMemory> {
-    let problem = build_no_units(alloc)?;
+    let problem = no_units(alloc)?;
     Ok(are_free(&problem, &[], &[]))
 }
 
@@ -31,12 +31,12 @@ fn moved(problem: &Problem, unit: u32, zone: u8, shift: u8) -> Option<u8> {
 }
 
 fn moved_in_sixty(alloc: Global, zone: u8, shift: u8) -> Result<Option<u8>, NoMemory> {
-    let problem = build_sixty_zones(alloc)?;
+    let problem = sixty_zones(alloc)?;
     Ok(moved(&problem, 0, zone, shift))
 }
 
 fn sixty_are_allowed(alloc: Global) -> Result<bool, NoMemory> {
-    let problem = build_sixty_zones(alloc)?;
+    let problem = sixty_zones(alloc)?;
     Ok(are_free(&problem, &[0], &[60]))
 }
 
@@ -50,12 +50,12 @@ fn sixty_zones_go_round(rt: HostRuntime) -> Result<(), Fail> {
 }
 
 fn moved_in_three_units(alloc: Global, zone: u8) -> Result<Option<u8>, NoMemory> {
-    let problem = build_three_units(alloc)?;
+    let problem = three_units(alloc)?;
     Ok(moved(&problem, 2, zone, 1))
 }
 
 fn three_units_are_free(alloc: Global) -> Result<bool, NoMemory> {
-    let problem = build_three_units(alloc)?;
+    let problem = three_units(alloc)?;
     Ok(are_free(&problem, &[0, 1, 2], &[2, 2, 2]))
 }
 
@@ -86,12 +86,12 @@ fn has_name(problem: &Problem, feature: u32, name: &[u8]) -> bool {
 }
 
 fn ids_in_three_units(alloc: Global) -> Result<Option<(u32, u32, u32)>, NoMemory> {
-    let problem = build_three_units(alloc)?;
+    let problem = three_units(alloc)?;
     Ok(ids(&problem, 2, 1, 0))
 }
 
 fn three_units_have_name(alloc: Global) -> Result<bool, NoMemory> {
-    let problem = build_three_units(alloc)?;
+    let problem = three_units(alloc)?;
     Ok(has_name(&problem, 0, b"f"))
 }
 
@@ -118,7 +118,7 @@ fn unit(problem: &Problem, unit: u32, zone: u8) -> Option<(u64, bool, u64)> {
 }
 
 fn unit_in_three_units(alloc: Global, zone: u8) -> Result<Option<(u64, bool, u64)>, NoMemory> {
-    let problem = build_three_units(alloc)?;
+    let problem = three_units(alloc)?;
     Ok(unit(&problem, 1, zone))
 }
 
@@ -155,12 +155,12 @@ fn last_neighbour_in_three_units(
     alloc: Global,
     unit: u32,
 ) -> Result<Option<(u32, (u32, u64))>, NoMemory> {
-    let problem = build_three_units(alloc)?;
+    let problem = three_units(alloc)?;
     Ok(last_neighbour(&problem, unit))
 }
 
 fn outer_term_in_three_units(alloc: Global, zone: u8) -> Result<Option<u64>, NoMemory> {
-    let problem = build_three_units(alloc)?;
+    let problem = three_units(alloc)?;
     Ok(outer_term(&problem, 0, zone, 0))
 }
 
@@ -206,17 +206,17 @@ fn last_touched(problem: &Problem, unit: u32) -> Option<(u32, u32)> {
 }
 
 fn target_in_three_zones(alloc: Global) -> Result<Option<(u32, Option<u8>, u64, u64)>, NoMemory> {
-    let problem = build_three_zones(alloc)?;
+    let problem = three_zones(alloc)?;
     Ok(target(&problem, 1))
 }
 
 fn gain_in_three_zones(alloc: Global, row: u32, zone: u8) -> Result<Option<u64>, NoMemory> {
-    let problem = build_three_zones(alloc)?;
+    let problem = three_zones(alloc)?;
     Ok(gain(&problem, row, 2, zone))
 }
 
 fn last_touched_in_three_zones(alloc: Global) -> Result<Option<(u32, u32)>, NoMemory> {
-    let problem = build_three_zones(alloc)?;
+    let problem = three_zones(alloc)?;
     Ok(last_touched(&problem, 1))
 }
 

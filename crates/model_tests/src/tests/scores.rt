@@ -1,5 +1,5 @@
 //! Plans and their scores, as worked out by hand.
-use mz_examples::{build_no_units, build_three_units, build_three_zones, build_unheld_features};
+use super::problems::{no_units, three_units, three_zones, unheld_features};
 use mz_model::{Plan, PlanFault, Problem, evaluate, held, short};
 use mz_num::NoMemory;
 use std::alloc::Global;
@@ -17,7 +17,7 @@ fn score_of(alloc: Global, problem: &Problem, zones: &[u8]) -> Option<(u128, u12
 }
 
 fn total_of_three_units(alloc: Global, zones: &[u8]) -> Result<Option<u128>, NoMemory> {
-    let problem = build_three_units(alloc)?;
+    let problem = three_units(alloc)?;
     Ok(score_of(alloc, &problem, zones).map(|score| score.3))
 }
 
@@ -37,7 +37,7 @@ fn plans_of_three_units_score(rt: HostRuntime) -> Result<(), Fail> {
 
 /// Why a list of zones is no plan of three units, if it is none.
 fn fault_in_three_units(alloc: Global, zones: &[u8]) -> Result<Option<PlanFault>, NoMemory> {
-    let problem = build_three_units(alloc)?;
+    let problem = three_units(alloc)?;
     Ok(Plan::of(alloc, &problem, zones).err())
 }
 
@@ -64,12 +64,12 @@ fn held_and_short(alloc: Global, problem: &Problem, zones: &[u8], row: u32) -> O
 }
 
 fn score_of_three_zones(alloc: Global) -> Result<Option<(u128, u128, u128, u128)>, NoMemory> {
-    let problem = build_three_zones(alloc)?;
+    let problem = three_zones(alloc)?;
     Ok(score_of(alloc, &problem, &[2, 1, 0]))
 }
 
 fn row_of_three_zones(alloc: Global, row: u32) -> Result<Option<(u64, u64)>, NoMemory> {
-    let problem = build_three_zones(alloc)?;
+    let problem = three_zones(alloc)?;
     Ok(held_and_short(alloc, &problem, &[2, 1, 0], row))
 }
 
@@ -89,12 +89,12 @@ fn rows_of_three_zones_fall_short(rt: HostRuntime) -> Result<(), Fail> {
 }
 
 fn score_of_unheld_features(alloc: Global) -> Result<Option<(u128, u128, u128, u128)>, NoMemory> {
-    let problem = build_unheld_features(alloc)?;
+    let problem = unheld_features(alloc)?;
     Ok(score_of(alloc, &problem, &[0, 0, 1]))
 }
 
 fn row_of_unheld_features(alloc: Global, row: u32) -> Result<Option<(u64, u64)>, NoMemory> {
-    let problem = build_unheld_features(alloc)?;
+    let problem = unheld_features(alloc)?;
     Ok(held_and_short(alloc, &problem, &[0, 0, 1], row))
 }
 
@@ -114,7 +114,7 @@ fn features_without_amounts_score(rt: HostRuntime) -> Result<(), Fail> {
 }
 
 fn score_of_no_units(alloc: Global) -> Result<Option<(u128, u128, u128, u128)>, NoMemory> {
-    let problem = build_no_units(alloc)?;
+    let problem = no_units(alloc)?;
     Ok(score_of(alloc, &problem, &[]))
 }
 
@@ -145,7 +145,7 @@ fn after_put(alloc: Global, problem: &Problem, unit: u32, zone: u8) -> Option<(u
 }
 
 fn after_put_in_three_units(alloc: Global) -> Result<Option<(u8, u128, u128)>, NoMemory> {
-    let problem = build_three_units(alloc)?;
+    let problem = three_units(alloc)?;
     Ok(after_put(alloc, &problem, 0, 1))
 }
 
