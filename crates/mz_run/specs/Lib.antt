@@ -2,9 +2,9 @@ pub mod Acts
 pub mod Annealed
 pub mod Arguments
 pub mod Best
-pub mod Cooling
 pub mod Ending
 pub mod Lines
+pub mod OneWorker
 pub mod Prepared
 pub mod Program
 pub mod Project

@@ -3,7 +3,7 @@ use Rattle.std.specs.Prelude.{ℕ, ◌||◌, ◌&&◌, ◌==◌, if◌then◌els
 use Rattle.mz_params.specs.declared.params.Params.{Params}
 use Rattle.mz_model.specs.Zones.{free_units}
 use Rattle.mz_run.specs.declared.job.Job.{Job}
-use Rattle.mz_run.specs.Cooling.{cooling_of}
+use Rattle.mz_history.specs.Cooling.{cooling_of}
 use Rattle.mz_history.specs.Replay.{Setting, replay_of, plan_of_history}
 
 -- the random seed: RANDSEED, or the one that was handed in where it is negative or not given
@@ -12,11 +12,20 @@ seed_of params chance = unwrap_or params.seed chance
 
 -- what the history of a run is played with
 abbrev pub setting_of : Job → ℕ → Setting
-setting_of job run = record { parts = job.problem; cooling = cooling_of job.params; prop = job.params.prop; seed = job.seed; run = run }
+setting_of job run = record {
+  parts = job.problem;
+  cooling = cooling_of job.problem job.params job.seed run;
+  prop = job.params.prop;
+  seed = job.seed;
+  run = run;
+}
 
 -- how many entries a run has: NUMITNS where it anneals and some unit is free, else none
 abbrev pub entries_of_run : Job → ℕ
-entries_of_run job = if (job.params.mode == 1 || job.params.mode == 6) && nat_lt 0 (length (free_units job.problem)) then job.params.iterations else 0
+entries_of_run job =
+    if (job.params.mode == 1 || job.params.mode == 6) && nat_lt 0 (length (free_units job.problem))
+    then job.params.iterations
+    else 0
 
 -- the plan that annealing of these turns ends with
 abbrev pub annealed_plan : Job → ℕ → List ℕ → List ℕ

@@ -30,7 +30,6 @@ fn search_key(params: &Params) -> Option<Key>
 {
     first(&[
         (params.reps > 1, Key::NumReps),
-        (params.start.is_none(), Key::StartTemp),
         (params.mode != 6, Key::RunMode),
     ])
 }
