@@ -1,1 +1,4 @@
+pub mod KeptLaws
 pub mod ReachLaws
+pub mod ReadingLaws
+pub mod VersionLaws

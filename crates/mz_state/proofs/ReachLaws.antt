@@ -1,8 +1,10 @@
 -- How far the last place that passes a test reaches.
-use Rattle.std.proofs.Common.{◌≡◌, ℕ, zero, suc, ◌+◌, ◌-◌, ◌<◌, ◌≤◌, ◌==◌, Bool, true, false, cond, List, [], ◌∷◌, ◌++◌, length, map, get_or, Option, Some, None, refl, sym, ap, subst, ◌∙◌, arith, inl, inr, length-append}
+use Rattle.std.proofs.Common.{◌≡◌, ℕ, zero, suc, ◌+◌, ◌-◌, ◌<◌, ◌≤◌, ◌==◌, Bool, true, false, cond, List, [], ◌∷◌, ◌++◌, length, map, get_or, take, Option, Some, None, refl, sym, ap, subst, ◌∙◌, arith, inl, inr, length-append}
 use Rattle.std.specs.Prelude.{◌||◌, ◌&&◌, max, nat_le, nat_lt, slice_index, if◌then◌else◌}
 use Rattle.std.specs.List.{last_or, list_any}
 use Rattle.std.proofs.lemmas.Bool.{cases_Bool, cases_eq, false≢true, leb-true, lt-ltb, le-ltb, le-leb, lt-leb}
+use Rattle.std.proofs.Math.Seq.{take-length}
+use Rattle.std.proofs.lemmas.List.{take_more}
 use Rattle.std.proofs.lemmas.Bool.Decides.{leb_tells}
 use Rattle.mz_num.specs.Places.{places_below}
 use Rattle.mz_history.proofs.OvertakingLemmas.{last-more, last-same}
@@ -133,3 +135,11 @@ pub last-past : (front : ℕ) (test : ℕ → Bool) (n : ℕ) → position_past 
 last-past front test zero = past-false front 0 (omega arith)
 last-past front test (suc n) =
     subst (λ m. position_past front (reach_of test m) ≡ last_or None (places_below m (λ k. nat_le front k && test k))) (next n) (one_more front test n (last-past front test n))
+
+-- ---- loops over greatest values
+
+pub greatest_by-next : {X : Type 0} (f : X → ℕ) (xs : List X) (i m : ℕ) (d : X) → i < length xs → m ≡ greatest_by f (take i xs) → max m (f (get_or xs i d)) ≡ greatest_by f (take (i + 1) xs)
+greatest_by-next f xs i m d within so_far = ap (λ n. max n (f (get_or xs i d))) so_far ∙ sym (ap (greatest_by f) (take_more xs i d within) ∙ greatest_by-push f (take i xs) (get_or xs i d))
+
+pub greatest_by-all : {X : Type 0} (f : X → ℕ) (xs : List X) (i m : ℕ) → i ≡ length xs → m ≡ greatest_by f (take i xs) → m ≡ greatest_by f xs
+greatest_by-all f xs i m all so_far = so_far ∙ ap (λ n. greatest_by f (take n xs)) all ∙ ap (greatest_by f) (take-length xs)

@@ -1,5 +1,5 @@
 //! The sample by which a start that isn't given is fitted.
-ghost use Rattle.std.specs.Prelude.{◌≡◌, ◌+◌, ◌*◌, ◌≤◌, ◌^◌, ◌<◌, ℕ, IfOk, length, unsigned_abs};
+ghost use Rattle.std.specs.Prelude.{◌≡◌, ◌+◌, ◌*◌, ◌%◌, ◌≤◌, ◌^◌, ◌<◌, ℕ, IfOk, length, unsigned_abs};
 ghost use Rattle.std.specs.List.{All};
 ghost use Rattle.mz_num.specs.Places.{list_below};
 ghost use Rattle.mz_model.specs.Plans.{IsLegalPlan};
@@ -78,17 +78,16 @@ fn next_change(
     reading: &mut Reading,
     judged: &mut Judged,
 ) -> i128
-    ghost k: { ℕ }
     requires legal { IsLegalPlan problem.now plan.now }
     requires totals { totals.now ≡ totals_of_plan problem.now plan.now }
     requires some_free { 0 < length (free_units problem.now) }
-    requires stands { drawer.old.taken ≡ 3 * k }
-    requires early { k < 1000 }
+    requires whole { drawer.old.taken % 3 ≡ 0 }
+    requires early { drawer.old.taken ≤ 3000 }
     requires reading { FitsReading problem.now reading.old }
     requires judged { FitsJudged problem.now judged.now }
-    ensures change { result ≡ change_by_draw problem.now plan.now (draw_at drawer.old.seed drawer.old.run drawer.old.seat (free_units problem.now) (counts_of problem.now) k) }
+    ensures change { (k : ℕ) → drawer.old.taken ≡ 3 * k → result ≡ change_by_draw problem.now plan.now (draw_at drawer.old.seed drawer.old.run drawer.old.seat (free_units problem.now) (counts_of problem.now) k) }
     ensures size { unsigned_abs result ≤ 10 ^ 25 }
-    ensures taken { drawer.new ≡ record drawer.old { taken = 3 * (k + 1) } }
+    ensures taken { drawer.new ≡ record drawer.old { taken = drawer.old.taken + 3 } }
     ensures reading { FitsReading problem.now reading.new }
     ensures judged { FitsJudged problem.now judged.exit.now }
 {

@@ -1,17 +1,14 @@
 //! Where a run stands after its journal.
-ghost use Rattle.std.specs.Prelude.{◌≡◌, ◌<◌, IfOk, IsTrue, if◌then◌else◌, length, replicate, slice_index, slice_set};
+ghost use Rattle.std.specs.Prelude.{◌≡◌, ◌<◌, IfOk, if◌then◌else◌, length, replicate, slice_set};
 ghost use Rattle.mz_model.specs.Move.{moved_plan};
 ghost use Rattle.mz_model.specs.Parts.{target_count, unit_count};
 ghost use Rattle.mz_model.specs.Plans.{IsLegalPlan};
-ghost use Rattle.mz_model.specs.Valid.{IsValid};
-ghost use Rattle.mz_model.specs.Zones.{is_allowed};
-ghost use Rattle.mz_delta.specs.Judged.{IsDifference};
 ghost use Rattle.mz_delta.specs.Reading.{totals_of_plan};
-ghost use Rattle.mz_state.specs.Standing.{IsPosition};
+ghost use Rattle.mz_state.specs.Standing.{IsMoveFrom, IsPosition};
 ghost use Rattle.mz_state.specs.Versions.{raised_rows, version_around};
 
 use crate::sums::changed_score;
-use crate::versions::{greatest_of_rows, greatest_of_units};
+use crate::versions::{greater, greatest_of_rows, greatest_of_units};
 use mz_delta::{Judged, totals_of};
 use mz_model::{Plan, Problem, Score, evaluate};
 use mz_num::NoMemory;
@@ -67,16 +64,13 @@ impl Standing {
         let own = self.units[unit as usize];
         let near = greatest_of_units(self.units.as_slice(), problem.neighbours(unit));
         let held = greatest_of_rows(self.rows.as_slice(), problem.touches(unit));
-        own.max(near.max(held))
+        greater(own, greater(near, held))
     }
 
     /// Makes a judged move where it was accepted. So many entries reach up to this one.
     pub(crate) fn decide(&mut self, problem: &Problem, judged: &Judged, accepted: bool, count: u32)
         requires position { IsPosition problem.now self.old.plan self.old.totals.items self.old.score }
-        requires unit { judged.now.unit < unit_count problem.now }
-        requires from { judged.now.old ≡ slice_index self.old.plan judged.now.unit }
-        requires allowed { IsTrue (is_allowed problem.now judged.now.unit judged.now.new) }
-        requires difference { IsDifference problem.now self.old.plan (moved_plan self.old.plan judged.now.unit judged.now.new) judged.now }
+        requires moves { IsMoveFrom problem.now self.old.plan judged.now }
         requires units { length self.old.units.items ≡ unit_count problem.now }
         requires rows { length self.old.rows.items ≡ target_count problem.now }
         ensures plan { self.new.plan ≡ (if accepted then moved_plan self.old.plan judged.now.unit judged.now.new else self.old.plan) }
@@ -86,9 +80,9 @@ impl Standing {
         ensures last { self.new.last ≡ (if accepted then count else self.old.last) }
     {
         if accepted {
-            move_rows(problem, judged, &self.plan, count, &mut self.totals, &mut self.rows);
+            self.score = changed_score(problem, &self.plan, &self.score, judged);
+            move_rows(problem, &self.plan, judged, count, &mut self.totals, &mut self.rows);
             self.plan.put(problem, judged.unit, judged.new);
-            self.score = changed_score(problem, &self.score, judged);
             self.units[judged.unit as usize] = count;
             self.last = count;
         }
@@ -99,17 +93,13 @@ impl Standing {
 /// which another amount is held their new version.
 fn move_rows(
     problem: &Problem,
-    judged: &Judged,
     plan: &Plan,
+    judged: &Judged,
     count: u32,
     totals: &mut Vec<u64>,
     versions: &mut Vec<u32>,
 )
-    requires legal { IsLegalPlan problem.now plan.now }
-    requires unit { judged.now.unit < unit_count problem.now }
-    requires from { judged.now.old ≡ slice_index plan.now judged.now.unit }
-    requires allowed { IsTrue (is_allowed problem.now judged.now.unit judged.now.new) }
-    requires difference { IsDifference problem.now plan.now (moved_plan plan.now judged.now.unit judged.now.new) judged.now }
+    requires moves { IsMoveFrom problem.now plan.now judged.now }
     requires totals { totals.old.items ≡ totals_of_plan problem.now plan.now }
     requires rows { length versions.old.items ≡ target_count problem.now }
     ensures totals { totals.new.items ≡ totals_of_plan problem.now (moved_plan plan.now judged.now.unit judged.now.new) }

@@ -1,20 +1,18 @@
 //! Sums that change by a difference.
-ghost use Rattle.std.specs.Prelude.{◌≡◌, ◌≤◌, ◌^◌, ℕ, List, pos, ◌-ℤ◌, unsigned_abs};
-ghost use Rattle.mz_model.specs.Plans.{IsLegalPlan};
+ghost use Rattle.std.specs.Prelude.{◌≡◌, ◌≤◌, ◌^◌, ℕ, pos, ◌-ℤ◌};
+ghost use Rattle.mz_model.specs.Move.{moved_plan};
 ghost use Rattle.mz_model.specs.Scores.{score_of_plan};
 ghost use Rattle.mz_model.specs.Valid.{IsValid};
-ghost use Rattle.mz_delta.specs.Judged.{IsDifference};
+ghost use Rattle.mz_state.specs.Standing.{IsChange, IsMoveFrom};
 
 use mz_delta::Judged;
-use mz_model::{Problem, Score};
+use mz_model::{Plan, Problem, Score};
 
 /// A sum after its change.
 fn changed(sum: u128, change: i128) -> u128
-    ghost after: { ℕ }
     requires sum { sum ≤ 10 ^ 25 }
-    requires after { after ≤ 10 ^ 25 }
-    requires change { change ≡ pos after -ℤ pos sum }
-    ensures { result ≡ after }
+    requires change { IsChange sum change }
+    ensures { (after : ℕ) → change ≡ pos after -ℤ pos sum → result ≡ after }
 {
     if change < 0 {
         sum - change.unsigned_abs()
@@ -23,17 +21,20 @@ fn changed(sum: u128, change: i128) -> u128
     }
 }
 
-/// The score of a plan after the judged move.
-pub(crate) fn changed_score(problem: &Problem, score: &Score, judged: &Judged) -> Score
-    ghost plans: { List ℕ × List ℕ }
+/// The score of a plan once the judged move is made.
+pub(crate) fn changed_score(
+    problem: &Problem,
+    plan: &Plan,
+    score: &Score,
+    judged: &Judged,
+) -> Score
     requires valid { IsValid problem.now }
-    requires before { IsLegalPlan problem.now plans.0 }
-    requires after { IsLegalPlan problem.now plans.1 }
-    requires score { score.now ≡ score_of_plan problem.now plans.0 }
-    requires difference { IsDifference problem.now plans.0 plans.1 judged.now }
-    ensures { result ≡ score_of_plan problem.now plans.1 }
+    requires moves { IsMoveFrom problem.now plan.now judged.now }
+    requires score { score.now ≡ score_of_plan problem.now plan.now }
+    ensures { result ≡ score_of_plan problem.now (moved_plan plan.now judged.now.unit judged.now.new) }
 {
     let _ = problem;
+    let _ = plan;
     Score {
         cost: changed(score.cost, judged.cost),
         boundary: changed(score.boundary, judged.boundary),

@@ -1,9 +1,17 @@
 //! The greatest version of a unit's items.
-ghost use Rattle.std.specs.Prelude.{◌≡◌, ◌<◌, length, slice_index};
+ghost use Rattle.std.specs.Prelude.{◌≡◌, ◌<◌, length, max, slice_index};
 ghost use Rattle.std.specs.List.{All};
 ghost use Rattle.mz_state.specs.Versions.{greatest_by, position_past};
 
 use mz_model::{Neighbour, Touch};
+
+/// The greater of two versions.
+#[inline]
+pub(crate) fn greater(one: u32, other: u32) -> u32
+    ensures { result ≡ max one other }
+{
+    one.max(other)
+}
 
 /// The greatest version of the units of these neighbours.
 pub(crate) fn greatest_of_units(versions: &[u32], neighbours: &[Neighbour]) -> u32
@@ -12,7 +20,7 @@ pub(crate) fn greatest_of_units(versions: &[u32], neighbours: &[Neighbour]) -> u
 {
     let mut greatest = 0;
     for neighbour in neighbours {
-        greatest = greatest.max(versions[neighbour.unit as usize]);
+        greatest = greater(greatest, versions[neighbour.unit as usize]);
     }
     greatest
 }
@@ -24,7 +32,7 @@ pub(crate) fn greatest_of_rows(versions: &[u32], touches: &[Touch]) -> u32
 {
     let mut greatest = 0;
     for touch in touches {
-        greatest = greatest.max(versions[touch.row as usize]);
+        greatest = greater(greatest, versions[touch.row as usize]);
     }
     greatest
 }
