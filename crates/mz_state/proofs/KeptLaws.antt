@@ -1,5 +1,5 @@
 -- What a kept state keeps: at the opening, and what is read of it.
-use Rattle.std.proofs.Common.{◌≡◌, ℕ, ◌+◌, ◌<◌, ◌≤◌, ◌^◌, List, [], ◌∷◌, ◌++◌, length, get_or, replicate, refl, sym, ap, subst, ◌∙◌, arith}
+use Rattle.std.proofs.Common.{◌≡◌, ℕ, ◌+◌, ◌<◌, ◌≤◌, ◌^◌, List, [], ◌∷◌, ◌++◌, length, get_or, replicate, Option, None, refl, sym, ap, subst, ◌∙◌, arith}
 use Rattle.std.specs.Prelude.{slice_index}
 use Rattle.std.specs.List.{All}
 use Rattle.std.proofs.lemmas.List.{length-replicate}
@@ -28,8 +28,10 @@ use Rattle.mz_history.proofs.LegalHistoryLaws.{legal-none}
 use Rattle.mz_state.specs.Kept.{AgreesWithJournal, AreVersions, IsKept, Keeps, KeptState}
 use Rattle.mz_state.specs.Looks.{IsLook}
 use Rattle.mz_state.specs.Standing.{IsPosition}
-use Rattle.mz_state.specs.Versions.{version_of}
+use Rattle.mz_state.specs.Versions.{position_past, version_around, version_of}
+use Rattle.mz_history.specs.Verdict.{overtaking_entry}
 use Rattle.mz_state.proofs.ReadingLaws.{agrees-right}
+use Rattle.mz_state.proofs.VersionLaws.{touched-none, touched-some}
 
 -- ---- the opening
 
@@ -102,3 +104,22 @@ looked k now draws plan totals score units rows last room parts seat place front
       agrees = sees;
       right = agrees-right now.setting now.journal seen count sees;
     }
+
+-- ---- what overtakes a reading
+
+pub none-touched : (k now : KeptState) (units rows : List ℕ) (last front unit : ℕ) → k ≡ now → AreVersions k units rows last → last ≤ front → None ≡ overtaking_entry now.setting.parts now.journal front unit
+none-touched k now units rows last front unit same are early = touched-none k units rows last front unit are early ∙ ap (λ (k : KeptState). overtaking_entry k.setting.parts k.journal front unit) same
+
+pub unit-count : (k now : KeptState) (units rows : List ℕ) (last : ℕ) (parts : Parts) → k ≡ now → parts ≡ now.setting.parts → AreVersions k units rows last → length units ≡ unit_count parts
+unit-count k now units rows last parts same own are = ap length are.units_are ∙ length-list_below (unit_count k.setting.parts) (λ unit. version_of k.setting.parts k.journal (unit_item unit)) ∙ ap (λ (k : KeptState). unit_count k.setting.parts) same ∙ ap unit_count (sym own)
+
+pub row-count : (k now : KeptState) (units rows : List ℕ) (last : ℕ) (parts : Parts) → k ≡ now → parts ≡ now.setting.parts → AreVersions k units rows last → length rows ≡ target_count parts
+row-count k now units rows last parts same own are = ap length are.rows_are ∙ length-list_below (target_count k.setting.parts) (λ row. version_of k.setting.parts k.journal (row_item row)) ∙ ap (λ (k : KeptState). target_count k.setting.parts) same ∙ ap target_count (sym own)
+
+pub some-touched : (k now : KeptState) (units rows : List ℕ) (last front unit version : ℕ) (answer : Option ℕ) (parts : Parts) → k ≡ now → parts ≡ now.setting.parts → IsValid k.setting.parts → AreVersions k units rows last → unit < unit_count parts
+    → version ≡ version_around parts units rows unit → answer ≡ position_past front version → answer ≡ overtaking_entry now.setting.parts now.journal front unit
+some-touched k now units rows last front unit version answer parts same own valid are within is answered =
+    let there : parts ≡ k.setting.parts = own ∙ sym (ap (λ (k : KeptState). k.setting.parts) same) in
+    answered ∙ ap (position_past front) (is ∙ ap (λ p. version_around p units rows unit) there)
+    ∙ touched-some k units rows last front unit valid are (subst (λ p. unit < unit_count p) there within)
+    ∙ ap (λ (k : KeptState). overtaking_entry k.setting.parts k.journal front unit) same

@@ -1,4 +1,6 @@
 pub mod KeptLaws
+pub mod MoveRowLaws
 pub mod ReachLaws
 pub mod ReadingLaws
+pub mod SumLaws
 pub mod VersionLaws

@@ -68,13 +68,13 @@ values-agree parts plan reading formed same =
 
 -- ---- items beside their values
 
+paired : (P : Item × ℕ → Type 0) (f : Item → ℕ) (items : List Item) → All (λ item. P (item, f item)) items → All P (zip items (map f items))
+paired P f [] all k d h = absurd (omega arith)
+paired P f (item ∷ items) all zero d h = all 0 item (omega arith)
+paired P f (item ∷ items) all (suc k) d h = paired P f items (λ i e g. all (suc i) e (omega arith)) k d (omega arith)
+
 zip-all : (P : Item × ℕ → Type 0) (f : Item → ℕ) (items : List Item) (values : List ℕ) → values ≡ map f items → All (λ item. P (item, f item)) items → All P (zip items values)
 zip-all P f items values same all = subst (λ (vs : List ℕ). All P (zip items vs)) (sym same) (paired P f items all)
-where
-  paired : (P : Item × ℕ → Type 0) (f : Item → ℕ) (items : List Item) → All (λ item. P (item, f item)) items → All P (zip items (map f items))
-  paired P f [] all k d h = absurd (omega arith)
-  paired P f (item ∷ items) all zero d h = all 0 item (omega arith)
-  paired P f (item ∷ items) all (suc k) d h = paired P f items (λ i e g. all (suc i) e (omega arith)) k d (omega arith)
 
 zip-values : (f : Item → ℕ) (items : List Item) (values : List ℕ) → length values ≡ length items → All (λ (read : Item × ℕ). read.1 ≡ f read.0) (zip items values) → values ≡ map f items
 zip-values f [] [] count all = refl
@@ -94,6 +94,21 @@ agrees-right s history reading whole agrees = record {
   (agreeing-values s.parts (plan_of_history s history) reading agrees) (λ k d h unchanged. refl);
 }
 
+values-count : (parts : Parts) (reading : Reading) → IsWellFormed parts reading → length (values_of_reading reading) ≡ length (items_of parts reading.unit)
+unfolding items_of
+values-count parts reading formed =
+    let a = length-append reading.neighbours.items reading.totals.items in
+    let b = length-append (map (λ (n : Neighbour). unit_item n.unit) (neighbours_of parts reading.unit)) (map row_item (touched_rows parts reading.unit)) in
+    let m = length-map (neighbours_of parts reading.unit) (λ (n : Neighbour). unit_item n.unit) in let t = length-map (touched_rows parts reading.unit) row_item in
+    omega (arith, formed.degree, formed.touched)
+
+unchanged-values : (s : Setting) (history : List Entry) (front : ℕ) (items : List Item) (values : List ℕ) → All (λ item. list_any (λ entry. changes s.parts entry item) (drop front history) ≡ false) items
+    → All (λ (read : Item × ℕ). list_any (λ entry. changes s.parts entry read.0) (drop front history) ≡ false → read.1 ≡ value_of_item s history read.0) (zip items values) → All (λ (read : Item × ℕ). read.1 ≡ value_of_item s history read.0) (zip items values)
+unchanged-values s history front [] values still all k d h = absurd (omega arith)
+unchanged-values s history front (item ∷ items) [] still all k d h = absurd (omega arith)
+unchanged-values s history front (item ∷ items) (v ∷ vs) still all zero d h = all 0 (item, v) (omega arith) (still 0 item (omega arith))
+unchanged-values s history front (item ∷ items) (v ∷ vs) still all (suc k) d h = unchanged-values s history front items vs (λ i e g. still (suc i) e (omega arith)) (λ i e g. all (suc i) e (omega arith)) k d (omega arith)
+
 -- a reading that is right for a history agrees with its plan where no entry at its front or later changed an item of
 -- its unit
 pub right-agrees : (s : Setting) (history : List Entry) (reading : Reading) → IsWellFormed s.parts reading → IsRightFor s history reading
@@ -102,18 +117,3 @@ right-agrees s history reading formed right untouched =
     values-agree s.parts (plan_of_history s history) reading formed
     (zip-values (value_of_item s history) (items_of s.parts reading.unit) (values_of_reading reading) (values-count s.parts reading formed)
     (unchanged-values s history reading.front (items_of s.parts reading.unit) (values_of_reading reading) untouched right.current))
-where
-  values-count : (parts : Parts) (reading : Reading) → IsWellFormed parts reading → length (values_of_reading reading) ≡ length (items_of parts reading.unit)
-  unfolding items_of
-  values-count parts reading formed =
-      let a = length-append reading.neighbours.items reading.totals.items in
-      let b = length-append (map (λ (n : Neighbour). unit_item n.unit) (neighbours_of parts reading.unit)) (map row_item (touched_rows parts reading.unit)) in
-      let m = length-map (neighbours_of parts reading.unit) (λ (n : Neighbour). unit_item n.unit) in let t = length-map (touched_rows parts reading.unit) row_item in
-      omega (arith, formed.degree, formed.touched)
-
-  unchanged-values : (s : Setting) (history : List Entry) (front : ℕ) (items : List Item) (values : List ℕ) → All (λ item. list_any (λ entry. changes s.parts entry item) (drop front history) ≡ false) items
-      → All (λ (read : Item × ℕ). list_any (λ entry. changes s.parts entry read.0) (drop front history) ≡ false → read.1 ≡ value_of_item s history read.0) (zip items values) → All (λ (read : Item × ℕ). read.1 ≡ value_of_item s history read.0) (zip items values)
-  unchanged-values s history front [] values still all k d h = absurd (omega arith)
-  unchanged-values s history front (item ∷ items) [] still all k d h = absurd (omega arith)
-  unchanged-values s history front (item ∷ items) (v ∷ vs) still all zero d h = all 0 (item, v) (omega arith) (still 0 item (omega arith))
-  unchanged-values s history front (item ∷ items) (v ∷ vs) still all (suc k) d h = unchanged-values s history front items vs (λ i e g. still (suc i) e (omega arith)) (λ i e g. all (suc i) e (omega arith)) k d (omega arith)
