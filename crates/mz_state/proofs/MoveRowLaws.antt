@@ -1,20 +1,22 @@
 -- Target rows of a moved unit: what is held for them, and their versions.
 use Rattle.std.proofs.Common.{◌≡◌, ℕ, ◌+◌, ◌<◌, ◌≤◌, ◌==◌, Bool, true, false, cond, List, [], ◌∷◌, ◌++◌, length, get_or, set, take, map, refl, sym, ap, subst, ◌∙◌, arith, inl, inr, ◌⊎◌}
 use Rattle.std.specs.Prelude.{◌||◌, IsTrue, slice_index}
-use Rattle.std.specs.List.{list_any}
-use Rattle.std.proofs.Math.Seq.{take-length}
+use Rattle.std.specs.List.{Contains, list_any}
+use Rattle.std.proofs.Math.ListN.{get_or-map}
 use Rattle.std.proofs.lemmas.Bool.{cases_Bool, cases_eq, cond-false, cond-true, eq-eqb, false≢true, ne_eqb}
-use Rattle.std.proofs.lemmas.List.{take_more}
+use Rattle.std.proofs.lemmas.List.{get_or_default, length-map, take_all, take_more}
 use Rattle.std.proofs.lemmas.List.Folds.{list_any-append, list_any_at}
 use Rattle.mz_num.specs.Places.{list_below}
 use Rattle.mz_num.proofs.PlaceLaws.{get_or-list_below, length-list_below, list_below-from, list_below-same, list_below-set, places_below-has}
 use Rattle.mz_model.specs.declared.parts.Parts.{Parts}
 use Rattle.mz_model.specs.Move.{moved_plan}
 use Rattle.mz_model.specs.Parts.{target_count, unit_count, zone_count}
-use Rattle.mz_model.specs.Targets.{gain_of, held_of, is_touched, touched_rows}
+use Rattle.mz_model.specs.declared.touch.Touch.{Touch}
+use Rattle.mz_model.specs.Targets.{gain_of, held_of, is_touched, touched_rows, touches_of}
 use Rattle.mz_model.specs.Valid.{IsValid}
 use Rattle.mz_model.proofs.ScoreLaws.{plan-in_range}
 use Rattle.mz_model.proofs.ZoneLaws.{is_allowed-in_range}
+use Rattle.mz_model.proofs.TouchLaws.{get_or-touches_of, length-touches_of, touched_rows-in_range}
 use Rattle.mz_delta.specs.declared.judged.Judged.{Judged}
 use Rattle.mz_delta.specs.Reading.{totals_of_plan}
 use Rattle.mz_delta.proofs.MoveLaws.{held-moved}
@@ -133,12 +135,13 @@ rows-skip parts plan judged count old done totals versions row moved moves so_fa
         }
     ]
 
+any-has : (xs : List ℕ) (row : ℕ) → Contains xs row → list_any (λ k. k == row) xs ≡ true
+any-has xs row (place, within, at) = list_any_at (λ k. k == row) xs place row within (eq-eqb (get_or xs place row) row at)
+
 untouched : (parts : Parts) (unit row : ℕ) → row < target_count parts → list_any (λ k. k == row) (touched_rows parts unit) ≡ false → is_touched parts unit row ≡ false
 unfolding touched_rows
 untouched parts unit row within none = elim (cases_Bool (is_touched parts unit row)) [
-  | inl touched ↦
-    let has = places_below-has (target_count parts) row (is_touched parts unit) within touched in
-    absurd (false≢true (sym none ∙ list_any_at (λ k. k == row) (touched_rows parts unit) has.0 0 has.1 (eq-eqb (get_or (touched_rows parts unit) has.0 0) row has.2)))
+  | inl touched ↦ absurd (false≢true (sym none ∙ any-has (touched_rows parts unit) row (places_below-has (target_count parts) row (is_touched parts unit) within touched)))
   | inr is ↦ is
 ]
 
@@ -164,3 +167,52 @@ rows-all parts plan judged count old totals versions valid moves done =
           ∙ sym (cond-true (gain_of parts r judged.unit judged.old == gain_of parts r judged.unit judged.new) (slice_index old r) count (eq-eqb _ _ equal))
       ]);
     }
+
+-- ---- one row more
+
+default-free : (xs : List ℕ) (k d : ℕ) → k < length xs → get_or xs k d ≡ get_or xs k 0
+default-free xs k d within = get_or_default xs k d 0 within
+
+pub row-at : (parts : Parts) (unit i : ℕ) (touches : List Touch) (d : Touch) → touches ≡ touches_of parts unit → i < length (touched_rows parts unit) → (get_or touches i d).row ≡ get_or (touched_rows parts unit) i 0
+row-at parts unit i touches d are within = ap (λ (ts : List Touch). (get_or ts i d).row) are ∙ ap (λ (t : Touch). t.row) (get_or-touches_of parts unit i d within)
+
+moved-at : (parts : Parts) (plan : List ℕ) (judged : Judged) (i d : ℕ) → IsMoveFrom parts plan judged → i < length (touched_rows parts judged.unit) → get_or judged.totals.items i d ≡ after_of parts plan judged (get_or (touched_rows parts judged.unit) i 0)
+moved-at parts plan judged i d moves within =
+    let f = after_of parts plan judged in let rows = touched_rows parts judged.unit in
+    ap (λ xs. get_or xs i d) moves.difference.totals ∙ get_or_default (map f rows) i d (f 0) (omega (arith, length-map rows f)) ∙ get_or-map f rows i 0
+
+pub next-set : (parts : Parts) (plan : List ℕ) (judged : Judged) (count i d e at : ℕ) (old moved totals totals' versions versions' : List ℕ) (touches : List Touch) (e1 : Touch) → IsMoveFrom parts plan judged
+    → moved ≡ judged.totals.items → at ≡ get_or totals (get_or touches i e1).row e → touches ≡ touches_of parts judged.unit → i < length touches → AreRowsDone parts plan judged count old (take i (touched_rows parts judged.unit)) totals versions
+    → (at ≡ get_or moved i d → ⊥) → totals' ≡ set totals (get_or touches i e1).row (get_or moved i d) → versions' ≡ set versions (get_or touches i e1).row count
+    → AreRowsDone parts plan judged count old (take (i + 1) (touched_rows parts judged.unit)) totals' versions'
+next-set parts plan judged count i d e at old moved totals totals' versions versions' touches e1 moves own found are within so_far differs set_totals set_versions =
+    let rows = touched_rows parts judged.unit in
+    let inside : i < length rows = omega (arith, ap length are, length-touches_of parts judged.unit) in
+    let row : (get_or touches i e1).row ≡ get_or rows i 0 = row-at parts judged.unit i touches e1 are inside in
+    let low : get_or rows i 0 < target_count parts = touched_rows-in_range parts judged.unit i 0 inside in
+    subst (λ done. AreRowsDone parts plan judged count old done totals' versions') (sym (take_more rows i 0 inside))
+    (rows-set parts plan judged count old (take i rows) totals totals' versions versions' (get_or rows i 0) (get_or judged.totals.items i d) moves so_far low
+    (λ same. differs (found ∙ ap (λ r. get_or totals r e) row ∙ default-free totals (get_or rows i 0) e (omega (arith, ap length so_far.totals_are, length-list_below (target_count parts) (λ r. cond (list_any (λ k. k == r) (take i rows)) (after_of parts plan judged r) (before_of parts plan r)))) ∙ same ∙ ap (λ xs. get_or xs i d) (sym own)))
+    (moved-at parts plan judged i d moves inside) (set_totals ∙ ap (λ xs. set totals (get_or touches i e1).row (get_or xs i d)) own ∙ ap (λ r. set totals r (get_or judged.totals.items i d)) row) (set_versions ∙ ap (λ r. set versions r count) row))
+
+pub next-skip : (parts : Parts) (plan : List ℕ) (judged : Judged) (count i d e at : ℕ) (old moved totals totals' versions versions' : List ℕ) (touches : List Touch) (e1 : Touch) → IsMoveFrom parts plan judged
+    → moved ≡ judged.totals.items → at ≡ get_or totals (get_or touches i e1).row e → touches ≡ touches_of parts judged.unit → i < length touches → AreRowsDone parts plan judged count old (take i (touched_rows parts judged.unit)) totals versions
+    → at ≡ get_or moved i d → totals' ≡ totals → versions' ≡ versions
+    → AreRowsDone parts plan judged count old (take (i + 1) (touched_rows parts judged.unit)) totals' versions'
+next-skip parts plan judged count i d e at old moved totals totals' versions versions' touches e1 moves own found are within so_far same same_totals same_versions =
+    let rows = touched_rows parts judged.unit in
+    let inside : i < length rows = omega (arith, ap length are, length-touches_of parts judged.unit) in
+    let row : (get_or touches i e1).row ≡ get_or rows i 0 = row-at parts judged.unit i touches e1 are inside in
+    let low : get_or rows i 0 < target_count parts = touched_rows-in_range parts judged.unit i 0 inside in
+    subst (λ ts. AreRowsDone parts plan judged count old (take (i + 1) rows) ts versions') (sym same_totals)
+    (subst (λ vs. AreRowsDone parts plan judged count old (take (i + 1) rows) totals vs) (sym same_versions)
+    (subst (λ done. AreRowsDone parts plan judged count old done totals versions) (sym (take_more rows i 0 inside))
+    (rows-skip parts plan judged count old (take i rows) totals versions (get_or rows i 0) (get_or judged.totals.items i d) moves so_far low
+    (sym (found ∙ ap (λ r. get_or totals r e) row ∙ default-free totals (get_or rows i 0) e (omega (arith, ap length so_far.totals_are, length-list_below (target_count parts) (λ r. cond (list_any (λ k. k == r) (take i rows)) (after_of parts plan judged r) (before_of parts plan r))))) ∙ same ∙ ap (λ xs. get_or xs i d) own)
+    (moved-at parts plan judged i d moves inside))))
+
+pub rows-done : (parts : Parts) (plan : List ℕ) (judged : Judged) (count i : ℕ) (old totals versions : List ℕ) (touches : List Touch) → IsValid parts → IsMoveFrom parts plan judged → touches ≡ touches_of parts judged.unit → length touches ≤ i
+    → AreRowsDone parts plan judged count old (take i (touched_rows parts judged.unit)) totals versions → AreRowsMoved parts plan judged count old totals versions
+rows-done parts plan judged count i old totals versions touches valid moves are all so_far =
+    rows-all parts plan judged count old totals versions valid moves
+    (subst (λ done. AreRowsDone parts plan judged count old done totals versions) (take_all i (touched_rows parts judged.unit) (omega (arith, ap length are, length-touches_of parts judged.unit))) so_far)

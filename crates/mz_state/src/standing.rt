@@ -3,6 +3,7 @@ ghost use Rattle.std.specs.Prelude.{◌≡◌, ◌<◌, IfOk, if◌then◌else�
 ghost use Rattle.mz_model.specs.Move.{moved_plan};
 ghost use Rattle.mz_model.specs.Parts.{target_count, unit_count};
 ghost use Rattle.mz_model.specs.Plans.{IsLegalPlan};
+ghost use Rattle.mz_model.specs.Valid.{IsValid};
 ghost use Rattle.mz_delta.specs.Reading.{totals_of_plan};
 ghost use Rattle.mz_state.specs.Standing.{IsMoveFrom, IsPosition};
 ghost use Rattle.mz_state.specs.Versions.{raised_rows, version_around};
@@ -69,6 +70,7 @@ impl Standing {
 
     /// Makes a judged move where it was accepted. So many entries reach up to this one.
     pub(crate) fn decide(&mut self, problem: &Problem, judged: &Judged, accepted: bool, count: u32)
+        requires valid { IsValid problem.now }
         requires position { IsPosition problem.now self.old.plan self.old.totals.items self.old.score }
         requires moves { IsMoveFrom problem.now self.old.plan judged.now }
         requires units { length self.old.units.items ≡ unit_count problem.now }

@@ -1,5 +1,6 @@
-use Rattle.std.proofs.Common.{rules, ◌∙◌, w128}
-use mir.Val.{to_z-of_z}
+use Rattle.std.proofs.Common.{rules, ◌∙◌}
+use Rattle.std.specs.Int.{w128}
+use Rattle.std.proofs.lemmas.Int.{to_z-of_z}
 use Rattle.mz_state.proofs.SumLaws.{changes-are, scored, small-sums}
 use Rattle.mz_state.proofs.sums.changed_score.Goals as goal
 
