@@ -1,3 +1,4 @@
+pub mod ApplyLaws
 pub mod KeptLaws
 pub mod MoveRowLaws
 pub mod ReachLaws

@@ -1,4 +1,4 @@
-use Rattle.std.proofs.Common.{arith}
+use Rattle.std.proofs.Common.{refl}
 use Rattle.mz_state.proofs.MoveRowLaws.{next-set, next-skip, rows-done, rows-none}
 use Rattle.mz_state.proofs.standing.move_rows.Goals.{then-index-moved, else-index-moved}
 use Rattle.mz_state.proofs.standing.move_rows.Goals as goal
@@ -8,8 +8,8 @@ loop-i-init c = rows-none c.args.problem.now c.args.plan.now c.args.judged.now c
 
 pub loop-i-preserved : goal.loop-i-preserved
 loop-i-preserved c = elim c.if-index-moved.branch [
-  | then-index-moved w ↦ next-set c.args.problem.now c.args.plan.now c.args.judged.now c.args.count c.loop-i.i _ _ _ _ _ _ _ _ _ _ _ c.requires.moves c.as_slice-moved.ensures c.index.ensures c.touches-touches.ensures.touches c.loop-i-test.true c.loop-i.invariant w.if-index-moved.true w.totals-is w.versions-is
-  | else-index-moved w ↦ next-skip c.args.problem.now c.args.plan.now c.args.judged.now c.args.count c.loop-i.i _ _ _ _ _ _ _ _ _ _ _ c.requires.moves c.as_slice-moved.ensures c.index.ensures c.touches-touches.ensures.touches c.loop-i-test.true c.loop-i.invariant w.if-index-moved.false w.totals-is w.versions-is
+  | then-index-moved w ↦ rw (w.totals-is, w.versions-is) (next-set c.args.problem.now c.args.plan.now c.args.judged.now c.args.count c.loop-i.i _ _ _ _ _ _ _ _ _ _ _ c.requires.moves c.as_slice-moved.ensures c.index.ensures c.touches-touches.ensures.touches c.loop-i-test.true c.loop-i.invariant w.if-index-moved.true refl refl)
+  | else-index-moved w ↦ rw (w.totals-is, w.versions-is) (next-skip c.args.problem.now c.args.plan.now c.args.judged.now c.args.count c.loop-i.i _ _ _ _ _ _ _ _ _ _ _ c.requires.moves c.as_slice-moved.ensures c.index.ensures c.touches-touches.ensures.touches c.loop-i-test.true c.loop-i.invariant w.if-index-moved.false refl refl)
 ]
 
 pub returns-clause-totals : goal.returns-clause-totals
