@@ -40,7 +40,8 @@ pub(crate) fn sampled_changes(
         return Ok(vec![in alloc; 0; SAMPLES]?);
     }
     let plan = start(alloc, problem, prop, seed, run)?;
-    changes_of(alloc, problem, &plan, seed, run)
+    let changes = changes_of(alloc, problem, &plan, seed, run)?;
+    Ok(changes)
 }
 
 /// By how much each draw of the sample changes the score of the plan.
