@@ -1,4 +1,5 @@
 pub mod ApplyLaws
+pub mod CommitLaws
 pub mod KeptLaws
 pub mod MoveRowLaws
 pub mod ReachLaws

@@ -41,7 +41,7 @@ values-are parts plan unit =
 abbrev pub values_of_reading : Reading → List ℕ
 values_of_reading reading = reading.zone ∷ (reading.neighbours.items ++ reading.totals.items)
 
-agreeing-values : (parts : Parts) (plan : List ℕ) (reading : Reading) → Agrees parts plan reading → values_of_reading reading ≡ map (value_in_plan parts plan) (items_of parts reading.unit)
+pub agreeing-values : (parts : Parts) (plan : List ℕ) (reading : Reading) → Agrees parts plan reading → values_of_reading reading ≡ map (value_in_plan parts plan) (items_of parts reading.unit)
 agreeing-values parts plan reading agrees =
     ap (λ (z : ℕ). z ∷ (reading.neighbours.items ++ reading.totals.items)) agrees.unit
     ∙ ap (λ (zs : List ℕ). slice_index plan reading.unit ∷ (zs ++ reading.totals.items)) agrees.neighbours
@@ -54,7 +54,7 @@ head-same x y xs ys e = ap (λ (zs : List ℕ). get_or zs 0 0) e
 tail-same : (x y : ℕ) (xs ys : List ℕ) → x ∷ xs ≡ y ∷ ys → xs ≡ ys
 tail-same x y xs ys e = ap (drop 1) e
 
-values-agree : (parts : Parts) (plan : List ℕ) (reading : Reading) → IsWellFormed parts reading → values_of_reading reading ≡ map (value_in_plan parts plan) (items_of parts reading.unit) → Agrees parts plan reading
+pub values-agree : (parts : Parts) (plan : List ℕ) (reading : Reading) → IsWellFormed parts reading → values_of_reading reading ≡ map (value_in_plan parts plan) (items_of parts reading.unit) → Agrees parts plan reading
 values-agree parts plan reading formed same =
     let whole : values_of_reading reading ≡ plan_values parts plan reading.unit = same ∙ values-are parts plan reading.unit in
     let rest = tail-same reading.zone (slice_index plan reading.unit) (reading.neighbours.items ++ reading.totals.items) (zones_around parts plan reading.unit ++ map (held_of parts plan) (touched_rows parts reading.unit)) whole in

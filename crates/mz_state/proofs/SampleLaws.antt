@@ -1,11 +1,10 @@
 -- The sample of changes.
-use Rattle.std.proofs.Common.{◌≡◌, ℕ, ◌+◌, ◌*◌, ◌<◌, ◌≤◌, ◌^◌, ◌%◌, ℤ, pos, List, [], ◌∷◌, ◌++◌, length, replicate, true, false, refl, sym, ap, subst, ◌∙◌, arith}
+use Rattle.std.proofs.Common.{◌≡◌, ℕ, ◌+◌, ◌*◌, ◌<◌, ◌≤◌, ◌^◌, ◌%◌, ℤ, pos, List, [], ◌∷◌, ◌++◌, length, replicate, Bool, true, false, refl, sym, ap, subst, ◌∙◌, arith}
 use Rattle.std.specs.Prelude.{unsigned_abs, nat_lt, if◌then◌else◌}
 use Rattle.std.specs.List.{All}
-use Rattle.std.proofs.lemmas.Bool.{lt-ltb, le-ltb}
 use Rattle.std.proofs.lemmas.List.Elements.{All-nil, All-push}
 use Rattle.mz_num.specs.Places.{list_below}
-use Rattle.mz_num.proofs.PlaceLaws.{list_below-more, list_below-same, replicate-list_below}
+use Rattle.mz_num.proofs.PlaceLaws.{length-list_below, list_below-more, list_below-same, replicate-list_below}
 use Rattle.mz_draw.specs.Draws.{draw_at}
 use Rattle.mz_draw.specs.Words.{SeatWords}
 use Rattle.mz_model.specs.declared.parts.Parts.{Parts}
@@ -59,13 +58,19 @@ sampled-more parts plan seed run n changes changes' words words' reading reading
     }
 
 -- the sample of a problem with a free unit, and of one without
-pub sample-free : (parts : Parts) (prop seed run : ℕ) (plan : List ℕ) (changes : List ℤ) → 0 < length (free_units parts) → plan ≡ starting_plan parts prop seed run → changes ≡ list_below 1000 (sample_at parts plan seed run) → changes ≡ sampled_changes parts prop seed run
+pub sample-free : (parts : Parts) (prop seed run : ℕ) (plan : List ℕ) (changes : List ℤ) (has : Bool) → has ≡ nat_lt 0 (length (free_units parts)) → has ≡ true → plan ≡ starting_plan parts prop seed run → changes ≡ list_below 1000 (sample_at parts plan seed run)
+    → changes ≡ sampled_changes parts prop seed run
 unfolding sampled_changes
-sample-free parts prop seed run plan changes some start are =
+sample-free parts prop seed run plan changes has is some start are =
     are ∙ ap (λ (p : List ℕ). list_below 1000 (sample_at parts p seed run)) start
-    ∙ list_below-same 1000 (sample_at parts (starting_plan parts prop seed run) seed run) (sampled_change parts prop seed run) (pos 0) (λ k below. sym (rw (lt-ltb 0 (length (free_units parts)) some) refl))
+    ∙ list_below-same 1000 (sample_at parts (starting_plan parts prop seed run) seed run) (sampled_change parts prop seed run) (pos 0) (λ k below. sym (rw (sym is ∙ some) refl))
 
-pub sample-fixed : (parts : Parts) (prop seed run : ℕ) (free : List ℕ) (changes : List ℤ) → free ≡ free_units parts → length free ≡ 0 → changes ≡ replicate 1000 (pos 0) → changes ≡ sampled_changes parts prop seed run
+pub sample-fixed : (parts : Parts) (prop seed run : ℕ) (changes : List ℤ) (has : Bool) → has ≡ nat_lt 0 (length (free_units parts)) → has ≡ false → changes ≡ replicate 1000 (pos 0) → changes ≡ sampled_changes parts prop seed run
 unfolding sampled_changes
-sample-fixed parts prop seed run free changes are none zeros =
-    zeros ∙ replicate-list_below 1000 (sampled_change parts prop seed run) (pos 0) (pos 0) (λ k below. sym (rw (le-ltb 0 (length (free_units parts)) (omega (arith, ap length are))) refl))
+sample-fixed parts prop seed run changes has is none zeros =
+    zeros ∙ replicate-list_below 1000 (sampled_change parts prop seed run) (pos 0) (pos 0) (λ k below. sym (rw (sym is ∙ none) refl))
+
+-- there is some sample
+pub some-sample : (parts : Parts) (prop seed run : ℕ) (changes items : List ℤ) → items ≡ changes → changes ≡ sampled_changes parts prop seed run → 0 < length items
+unfolding sampled_changes
+some-sample parts prop seed run changes items same are = omega (arith, ap length same, ap length are, length-list_below 1000 (sampled_change parts prop seed run))

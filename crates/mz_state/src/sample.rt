@@ -1,5 +1,5 @@
 //! The sample by which a start that isn't given is fitted.
-ghost use Rattle.std.specs.Prelude.{◌≡◌, ◌+◌, ◌*◌, ◌%◌, ◌≤◌, ◌^◌, ◌<◌, ℕ, IfOk, length, unsigned_abs};
+ghost use Rattle.std.specs.Prelude.{◌≡◌, ◌+◌, ◌*◌, ◌%◌, ◌≤◌, ◌^◌, ◌<◌, ℕ, IfOk, length, nat_lt, unsigned_abs};
 ghost use Rattle.std.specs.List.{All};
 ghost use Rattle.mz_num.specs.Places.{list_below};
 ghost use Rattle.mz_model.specs.Plans.{IsLegalPlan};
@@ -36,12 +36,19 @@ pub(crate) fn sampled_changes(
     ensures changes { IfOk result (λ changes. changes.items ≡ sampled_changes problem.now prop seed run) }
     ensures sizes { IfOk result (λ changes. All (λ d. unsigned_abs d ≤ 10 ^ 25) changes.items) }
 {
-    if problem.free().is_empty() {
+    if !has_free(problem) {
         return Ok(vec![in alloc; 0; SAMPLES]?);
     }
     let plan = start(alloc, problem, prop, seed, run)?;
     let changes = changes_of(alloc, problem, &plan, seed, run)?;
     Ok(changes)
+}
+
+/// Whether some unit is free.
+fn has_free(problem: &Problem) -> bool
+    ensures { result ≡ nat_lt 0 (length (free_units problem.now)) }
+{
+    !problem.free().is_empty()
 }
 
 /// By how much each draw of the sample changes the score of the plan.
