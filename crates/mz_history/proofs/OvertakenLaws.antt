@@ -51,7 +51,7 @@ overtaking-is parts history front unit position is =
       around = parts_of.1;
     }
 
-around-accepted_only : (parts : Parts) (unit : ℕ) (entry : Entry) → changes_around parts unit entry ≡ true → entry.accepted ≡ true
+pub around-accepted_only : (parts : Parts) (unit : ℕ) (entry : Entry) → changes_around parts unit entry ≡ true → entry.accepted ≡ true
 around-accepted_only parts unit entry around = elim (cases_Bool entry.accepted) [
   | inl taken ↦ taken
   | inr refused ↦ absurd (false≢true (around-refused parts unit entry refused ∙ around))

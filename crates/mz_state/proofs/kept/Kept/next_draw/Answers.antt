@@ -1,0 +1,6 @@
+use Rattle.mz_state.proofs.CommitLaws.{commit-moves}
+use Rattle.mz_state.proofs.KeptLaws.{drawn-next}
+use Rattle.mz_state.proofs.kept.Kept.next_draw.Goals as goal
+
+pub returns : goal.returns
+returns c = drawn-next _ _ _ c.args.seat _ _ c.self.view_is c.self.invariant.agrees.draws_are c.requires c.index.ensures
