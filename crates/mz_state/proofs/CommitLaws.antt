@@ -127,20 +127,28 @@ untouched-agrees s history n reading valid legal few formed right none =
     ∙ later-keeps s history (get_or items i d) n m valid legal (omega (arith, whole)) (λ p from within. still p (omega (arith, count)) within i d h)) in
     values-agree s.parts (plan_of_history s history) reading formed (agreeing-values s.parts (plan_of_history s early) reading then_agrees ∙ sym values)
 
--- and what was judged by it for a draw is the draw's move on the history's plan
-pub commit-moves : (s : Setting) (history : List Entry) (n : ℕ) (reading : Reading) (draw : Draw) (judged : Judged) → IsValid s.parts → IsLegalHistory s history → n ≤ length history → IsRightFor s (take n history) reading
-    → overtaking_entry s.parts history reading.front reading.unit ≡ None → IsRight s.parts reading draw judged → IsMoveOf s.parts (plan_of_history s history) draw judged
-commit-moves s history n reading draw judged valid legal few right none judges =
-    let plan = plan_of_history s history in
-    let agrees = untouched-agrees s history n reading valid legal few judges.well_formed right none in
+-- what was judged for a draw, by a reading with which a legal plan agrees, is the draw's move on the plan
+pub agreeing-moves : (parts : Parts) (plan : List ℕ) (reading : Reading) (draw : Draw) (judged : Judged) → IsLegalPlan parts plan
+    → Agrees parts plan reading → IsRight parts reading draw judged → IsMoveOf parts plan draw judged
+agreeing-moves parts plan reading draw judged legal agrees judges =
     let zone : reading.zone ≡ slice_index plan draw.unit = agrees.unit ∙ ap (λ (u : ℕ). slice_index plan u) (sym judges.drawn) in
-    let target : step_of s.parts draw.unit reading.zone draw.shift ≡ drawn_zone s.parts plan draw = ap (λ (z : ℕ). step_of s.parts draw.unit z draw.shift) zone in
-    let one = judges.move.difference plan (last_plan-legal s history valid legal) agrees in
-    let two : IsDifference s.parts plan (moved_plan plan draw.unit (step_of s.parts draw.unit reading.zone draw.shift)) judged = subst (λ (u : ℕ). IsDifference s.parts plan (moved_plan plan u (step_of s.parts draw.unit reading.zone draw.shift)) judged) (sym judges.drawn) one in record {
+    let target : step_of parts draw.unit reading.zone draw.shift ≡ drawn_zone parts plan draw = ap (λ (z : ℕ). step_of parts draw.unit z draw.shift) zone in
+    let one = judges.move.difference plan legal agrees in
+    let two : IsDifference parts plan (moved_plan plan draw.unit (step_of parts draw.unit reading.zone draw.shift)) judged =
+    subst (λ (u : ℕ). IsDifference parts plan (moved_plan plan u (step_of parts draw.unit reading.zone draw.shift)) judged) (sym judges.drawn) one in record {
       number = judges.move.number;
       unit = judges.move.unit ∙ sym judges.drawn;
       word = judges.move.word;
       old = judges.move.old ∙ zone;
       new = judges.move.new ∙ target;
-      difference = subst (λ (z : ℕ). IsDifference s.parts plan (moved_plan plan draw.unit z) judged) target two;
+      difference = subst (λ (z : ℕ). IsDifference parts plan (moved_plan plan draw.unit z) judged) target two;
     }
+
+-- and what was judged by it for a draw is the draw's move on the history's plan
+pub commit-moves : (s : Setting) (history : List Entry) (n : ℕ) (reading : Reading) (draw : Draw) (judged : Judged) → IsValid s.parts
+    → IsLegalHistory s history → n ≤ length history → IsRightFor s (take n history) reading
+    → overtaking_entry s.parts history reading.front reading.unit ≡ None → IsRight s.parts reading draw judged
+    → IsMoveOf s.parts (plan_of_history s history) draw judged
+commit-moves s history n reading draw judged valid legal few right none judges =
+    agreeing-moves s.parts (plan_of_history s history) reading draw judged (last_plan-legal s history valid legal)
+    (untouched-agrees s history n reading valid legal few judges.well_formed right none) judges
