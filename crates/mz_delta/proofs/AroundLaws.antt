@@ -2,12 +2,14 @@
 use Rattle.std.proofs.Common.{◌≡◌, ℕ, ◌+◌, ◌-◌, ◌<◌, ◌≤◌, ◌^◌, List, [], ◌∷◌, ◌++◌, length, get_or, refl, ap, sym, ◌∙◌, ◌*◌, subst, arith}
 use Rattle.std.specs.Prelude.{pos, ◌-ℤ◌, IsTrue, slice_index}
 use Rattle.std.proofs.lemmas.List.Elements.{All-get_or}
+use Rattle.mz_model.specs.declared.neighbour.Neighbour.{Neighbour}
 use Rattle.mz_model.specs.declared.parts.Parts.{Parts}
-use Rattle.mz_model.specs.Boundary.{edge_term_of, neighbours_of}
+use Rattle.mz_model.specs.declared.touch.Touch.{Touch}
+use Rattle.mz_model.specs.Boundary.{edge_term_of, neighbours_of, no_neighbour}
 use Rattle.mz_model.specs.Parts.{unit_count, zone_count, outer_at, rate_at}
 use Rattle.mz_num.specs.Places.{list_below, sum_below}
 use Rattle.mz_model.specs.Scores.{penalty_term_of}
-use Rattle.mz_model.specs.Targets.{gain_from, gain_of, touched_rows, touches_of}
+use Rattle.mz_model.specs.Targets.{gain_from, gain_of, no_touch, touched_rows, touches_of}
 use Rattle.mz_model.specs.Valid.{IsValid}
 use Rattle.mz_model.specs.Zones.{is_allowed}
 use Rattle.mz_num.specs.Round.{round}
@@ -22,19 +24,19 @@ use Rattle.mz_delta.specs.Reading.{IsWellFormed, neighbour_at}
 use Rattle.mz_delta.proofs.DifferenceLaws.{crosswise}
 
 -- the read zone of a neighbour is one of the problem
-pub neighbour-in_range : (parts : Parts) (reading : Reading) (neighbours : List (ℕ × ℕ)) (zones : List ℕ) (i : ℕ) → IsValid parts → IsWellFormed parts reading → neighbours ≡ neighbours_of parts reading.unit → zones ≡ reading.neighbours.items → i < length neighbours → get_or zones i 0 < zone_count parts
+pub neighbour-in_range : (parts : Parts) (reading : Reading) (neighbours : List Neighbour) (zones : List ℕ) (i : ℕ) → IsValid parts → IsWellFormed parts reading → neighbours ≡ neighbours_of parts reading.unit → zones ≡ reading.neighbours.items → i < length neighbours → get_or zones i 0 < zone_count parts
 neighbour-in_range parts reading neighbours zones i valid well e f h =
-    let inside : i < length (neighbours_of parts reading.unit) = subst (λ (ns : List (ℕ × ℕ)). i < length ns) e h in
-    let unit : neighbour_at parts reading.unit i < unit_count parts = All-get_or (λ (pair : ℕ × ℕ). pair.0 < unit_count parts) (neighbours_of parts reading.unit) i (0, 0) inside (neighbours_of-in_range parts reading.unit valid) in
+    let inside : i < length (neighbours_of parts reading.unit) = subst (λ (ns : List Neighbour). i < length ns) e h in
+    let unit : neighbour_at parts reading.unit i < unit_count parts = All-get_or (λ (neighbour : Neighbour). neighbour.unit < unit_count parts) (neighbours_of parts reading.unit) i no_neighbour inside (neighbours_of-in_range parts reading.unit valid) in
     subst (λ (zs : List ℕ). get_or zs i 0 < zone_count parts) (sym f) (is_allowed-in_range parts (neighbour_at parts reading.unit i) (get_or reading.neighbours.items i 0) valid unit (well.neighbours i inside))
 
-pub neighbour_term-is : (parts : Parts) (reading : Reading) (neighbours : List (ℕ × ℕ)) (zones : List ℕ) (zone i : ℕ) → neighbours ≡ neighbours_of parts reading.unit → zones ≡ reading.neighbours.items → edge_term_of parts (get_or neighbours i (0, 0)).1 zone (get_or zones i 0) ≡ neighbour_term parts reading zone i
+pub neighbour_term-is : (parts : Parts) (reading : Reading) (neighbours : List Neighbour) (zones : List ℕ) (zone i : ℕ) → neighbours ≡ neighbours_of parts reading.unit → zones ≡ reading.neighbours.items → edge_term_of parts (get_or neighbours i no_neighbour).length zone (get_or zones i 0) ≡ neighbour_term parts reading zone i
 unfolding neighbour_term
 neighbour_term-is parts reading neighbours zones zone i e f =
-    ap (λ (ns : List (ℕ × ℕ)). edge_term_of parts (get_or ns i (0, 0)).1 zone (get_or zones i 0)) e
-    ∙ ap (λ (zs : List ℕ). edge_term_of parts (get_or (neighbours_of parts reading.unit) i (0, 0)).1 zone (get_or zs i 0)) f
+    ap (λ (ns : List Neighbour). edge_term_of parts (get_or ns i no_neighbour).length zone (get_or zones i 0)) e
+    ∙ ap (λ (zs : List ℕ). edge_term_of parts (get_or (neighbours_of parts reading.unit) i no_neighbour).length zone (get_or zs i 0)) f
 
-pub neighbours-all : (parts : Parts) (reading : Reading) (neighbours : List (ℕ × ℕ)) (i : ℕ) → i ≤ length neighbours → length neighbours ≤ i → neighbours ≡ neighbours_of parts reading.unit → i ≡ length (neighbours_of parts reading.unit)
+pub neighbours-all : (parts : Parts) (reading : Reading) (neighbours : List Neighbour) (i : ℕ) → i ≤ length neighbours → length neighbours ≤ i → neighbours ≡ neighbours_of parts reading.unit → i ≡ length (neighbours_of parts reading.unit)
 neighbours-all parts reading neighbours i h g e = omega (arith, ap length e)
 
 pub boundary_around-is : (parts : Parts) (reading : Reading) (zone i sum outer : ℕ) → i ≡ length (neighbours_of parts reading.unit) → sum ≡ sum_below i (neighbour_term parts reading zone) → outer ≡ edge_term_of parts (outer_at parts reading.unit) zone parts.available → sum + outer ≡ boundary_around parts reading zone
@@ -47,7 +49,7 @@ boundary_around-is parts reading zone i sum outer all terms last =
 pub neighbour_term-same : (parts : Parts) (reading : Reading) (zones : List ℕ) (old new i a b : ℕ) → zones ≡ reading.neighbours.items → a ≡ rate_at parts old (get_or zones i 0) → b ≡ rate_at parts new (get_or zones i 0) → a ≡ b → neighbour_term parts reading old i ≡ neighbour_term parts reading new i
 unfolding neighbour_term
 neighbour_term-same parts reading zones old new i a b same e f rates =
-    let len : ℕ = (get_or (neighbours_of parts reading.unit) i (0, 0)).1 in
+    let len : ℕ = (get_or (neighbours_of parts reading.unit) i no_neighbour).length in
     let z : ℕ = get_or reading.neighbours.items i 0 in
     let at : get_or zones i 0 ≡ z = ap (λ zs. get_or zs i 0) same in
     let rate : rate_at parts old z ≡ rate_at parts new z = sym (e ∙ ap (rate_at parts old) at) ∙ rates ∙ f ∙ ap (rate_at parts new) at in
@@ -65,13 +67,13 @@ boundary_around-change parts reading old new i before after old_outer new_outer 
 abbrev pub touched_penalty : Parts → ℕ → List ℕ → ℕ → ℕ
 touched_penalty parts unit totals i = penalty_term_of parts (slice_index (touched_rows parts unit) i) (slice_index totals i)
 
-pub touched_penalty-is : (parts : Parts) (unit i : ℕ) (totals : List ℕ) (touches : List (ℕ × ℕ)) → touches ≡ touches_of parts unit → i < length touches → penalty_term_of parts (get_or touches i (0, 0)).0 (get_or totals i 0) ≡ touched_penalty parts unit totals i
+pub touched_penalty-is : (parts : Parts) (unit i : ℕ) (totals : List ℕ) (touches : List Touch) → touches ≡ touches_of parts unit → i < length touches → penalty_term_of parts (get_or touches i no_touch).row (get_or totals i 0) ≡ touched_penalty parts unit totals i
 touched_penalty-is parts unit i totals touches e h =
     let inside : i < length (touched_rows parts unit) = omega (arith, ap length e, length-touches_of parts unit) in
-    ap (λ (ts : List (ℕ × ℕ)). penalty_term_of parts (get_or ts i (0, 0)).0 (get_or totals i 0)) e
-    ∙ ap (λ (touch : ℕ × ℕ). penalty_term_of parts touch.0 (get_or totals i 0)) (get_or-touches_of parts unit i (0, 0) inside)
+    ap (λ (ts : List Touch). penalty_term_of parts (get_or ts i no_touch).row (get_or totals i 0)) e
+    ∙ ap (λ (touch : Touch). penalty_term_of parts touch.row (get_or totals i 0)) (get_or-touches_of parts unit i no_touch inside)
 
-pub touches-all : (parts : Parts) (unit i : ℕ) (touches : List (ℕ × ℕ)) → touches ≡ touches_of parts unit → i ≤ length touches → length touches ≤ i → i ≡ length (touched_rows parts unit)
+pub touches-all : (parts : Parts) (unit i : ℕ) (touches : List Touch) → touches ≡ touches_of parts unit → i ≤ length touches → length touches ≤ i → i ≡ length (touched_rows parts unit)
 touches-all parts unit i touches e h g = omega (arith, ap length e, length-touches_of parts unit)
 
 -- a row of which as much is held has the same penalty
@@ -88,27 +90,27 @@ penalty_around-change parts unit i before after old new all change =
     crosswise (sum_below (length (touched_rows parts unit)) (touched_penalty parts unit new)) (sum_below (length (touched_rows parts unit)) (touched_penalty parts unit old)) after before (omega arith)
 
 -- what a unit's amount for a row that it touches counts in a zone that it may have
-pub record IsGain (parts : Parts) (unit i zone : ℕ) (touch : ℕ × ℕ) : Type 0 where
-  pub is : gain_from parts touch.0 touch.1 zone ≡ gain_of parts (slice_index (touched_rows parts unit) i) unit zone
-  pub small : gain_from parts touch.0 touch.1 zone ≤ 10 ^ 18
+pub record IsGain (parts : Parts) (unit i zone : ℕ) (touch : Touch) : Type 0 where
+  pub is : gain_from parts touch.row touch.amount zone ≡ gain_of parts (slice_index (touched_rows parts unit) i) unit zone
+  pub small : gain_from parts touch.row touch.amount zone ≤ 10 ^ 18
 
-pub touch-gain : (parts : Parts) (unit i zone : ℕ) (touches : List (ℕ × ℕ)) → IsValid parts → unit < unit_count parts → IsTrue (is_allowed parts unit zone) → touches ≡ touches_of parts unit → i < length touches → IsGain parts unit i zone (get_or touches i (0, 0))
+pub touch-gain : (parts : Parts) (unit i zone : ℕ) (touches : List Touch) → IsValid parts → unit < unit_count parts → IsTrue (is_allowed parts unit zone) → touches ≡ touches_of parts unit → i < length touches → IsGain parts unit i zone (get_or touches i no_touch)
 touch-gain parts unit i zone touches valid u allowed e h =
     let inside : i < length (touched_rows parts unit) = omega (arith, ap length e, length-touches_of parts unit) in
-    let is : gain_from parts (get_or touches i (0, 0)).0 (get_or touches i (0, 0)).1 zone ≡ gain_of parts (slice_index (touched_rows parts unit) i) unit zone = gain_from-touch parts unit i zone touches e inside in
+    let is : gain_from parts (get_or touches i no_touch).row (get_or touches i no_touch).amount zone ≡ gain_of parts (slice_index (touched_rows parts unit) i) unit zone = gain_from-touch parts unit i zone touches e inside in
     record { is = is; small = subst (λ n. n ≤ 10 ^ 18) (sym is) (gain_of-touched-le parts unit i zone valid u (is_allowed-in_range parts unit zone valid u allowed) inside) }
 
 -- what a well formed reading holds for a row that the unit touches
-pub read_total-le : (parts : Parts) (reading : Reading) (i : ℕ) (held : List ℕ) (touches : List (ℕ × ℕ)) → IsWellFormed parts reading → held ≡ reading.totals.items → touches ≡ touches_of parts reading.unit → i < length touches → get_or held i 0 ≤ 10 ^ 18
+pub read_total-le : (parts : Parts) (reading : Reading) (i : ℕ) (held : List ℕ) (touches : List Touch) → IsWellFormed parts reading → held ≡ reading.totals.items → touches ≡ touches_of parts reading.unit → i < length touches → get_or held i 0 ≤ 10 ^ 18
 read_total-le parts reading i held touches well e f h =
     subst (λ (ts : List ℕ). get_or ts i 0 ≤ 10 ^ 18) (sym e)
     (All-get_or (λ total. total ≤ 10 ^ 18) reading.totals.items i 0 (omega (arith, well.touched, ap length f, length-touches_of parts reading.unit)) well.totals)
 
 -- one total more
-pub moved_totals-more : (parts : Parts) (reading : Reading) (zone i total gained lost : ℕ) (touch : ℕ × ℕ) (totals totals' held : List ℕ)
+pub moved_totals-more : (parts : Parts) (reading : Reading) (zone i total gained lost : ℕ) (touch : Touch) (totals totals' held : List ℕ)
     → totals ≡ list_below i (moved_total parts reading zone) → held ≡ reading.totals.items
-    → IsGain parts reading.unit i zone touch → gained ≡ gain_from parts touch.0 touch.1 zone
-    → IsGain parts reading.unit i reading.zone touch → lost ≡ gain_from parts touch.0 touch.1 reading.zone
+    → IsGain parts reading.unit i zone touch → gained ≡ gain_from parts touch.row touch.amount zone
+    → IsGain parts reading.unit i reading.zone touch → lost ≡ gain_from parts touch.row touch.amount reading.zone
     → total ≡ get_or held i 0 + gained - lost → totals' ≡ totals ++ total ∷ []
     → totals' ≡ list_below (i + 1) (moved_total parts reading zone)
 unfolding moved_total

@@ -5,8 +5,9 @@ use Rattle.std.specs.Prelude.{pos, ◌+ℤ◌, ◌-ℤ◌, IsTrue, slice_index}
 use Rattle.std.specs.List.{sum_by}
 use Rattle.std.proofs.lemmas.List.{get_or-map, length-map}
 use Rattle.std.proofs.lemmas.List.Elements.{All-get_or}
+use Rattle.mz_model.specs.declared.neighbour.Neighbour.{Neighbour}
 use Rattle.mz_model.specs.declared.parts.Parts.{Parts}
-use Rattle.mz_model.specs.Boundary.{edge_term_of, neighbours_of}
+use Rattle.mz_model.specs.Boundary.{edge_term_of, neighbours_of, no_neighbour}
 use Rattle.mz_model.specs.Parts.{cost_at, outer_at}
 use Rattle.mz_num.specs.Places.{sum_below}
 use Rattle.mz_model.specs.Plans.{IsLegalPlan}
@@ -35,15 +36,15 @@ near_terms : (parts : Parts) (reading : Reading) (zone : ℕ) (zone_of : ℕ →
     → sum_by (near_by (edge_term_of parts) zone_of reading.unit) (neighbours_of parts reading.unit) ≡ sum_below (length (neighbours_of parts reading.unit)) (neighbour_term parts reading zone)
 unfolding neighbour_term
 near_terms parts reading zone zone_of own others =
-    sum_by-places (near_by (edge_term_of parts) zone_of reading.unit) (neighbours_of parts reading.unit) (0, 0)
-    ∙ sum_below-same (length (neighbours_of parts reading.unit)) (λ i. near_by (edge_term_of parts) zone_of reading.unit (get_or (neighbours_of parts reading.unit) i (0, 0))) (neighbour_term parts reading zone)
-    (λ i h. ap (λ z. edge_term_of parts (get_or (neighbours_of parts reading.unit) i (0, 0)).1 z (zone_of (neighbour_at parts reading.unit i))) own
-    ∙ ap (edge_term_of parts (get_or (neighbours_of parts reading.unit) i (0, 0)).1 zone) (others i h))
+    sum_by-places (near_by (edge_term_of parts) zone_of reading.unit) (neighbours_of parts reading.unit) no_neighbour
+    ∙ sum_below-same (length (neighbours_of parts reading.unit)) (λ i. near_by (edge_term_of parts) zone_of reading.unit (get_or (neighbours_of parts reading.unit) i no_neighbour)) (neighbour_term parts reading zone)
+    (λ i h. ap (λ z. edge_term_of parts (get_or (neighbours_of parts reading.unit) i no_neighbour).length z (zone_of (neighbour_at parts reading.unit i))) own
+    ∙ ap (edge_term_of parts (get_or (neighbours_of parts reading.unit) i no_neighbour).length zone) (others i h))
 
 -- the read zone of a neighbour is its zone in a plan that agrees
 read_neighbour : (parts : Parts) (reading : Reading) (zones : List ℕ) (i : ℕ) → Agrees parts zones reading → i < length (neighbours_of parts reading.unit) → slice_index zones (neighbour_at parts reading.unit i) ≡ slice_index reading.neighbours.items i
 read_neighbour parts reading zones i agrees h =
-    sym (ap (λ (zs : List ℕ). get_or zs i 0) agrees.neighbours ∙ get_or-map (λ (neighbour : ℕ × ℕ). slice_index zones neighbour.0) (neighbours_of parts reading.unit) i (0, 0) 0 h)
+    sym (ap (λ (zs : List ℕ). get_or zs i 0) agrees.neighbours ∙ get_or-map (λ (neighbour : Neighbour). slice_index zones neighbour.unit) (neighbours_of parts reading.unit) i no_neighbour 0 h)
 
 boundary_around-is : (parts : Parts) (reading : Reading) (zone : ℕ) → boundary_around parts reading zone ≡ sum_below (length (neighbours_of parts reading.unit)) (neighbour_term parts reading zone) + edge_term_of parts (outer_at parts reading.unit) zone parts.available
 unfolding boundary_around
@@ -57,7 +58,7 @@ boundary-moved parts reading zones zone valid well allowed legal agrees =
     near_terms parts reading reading.zone (slice_index zones) (sym agrees.unit) (λ i h. read_neighbour parts reading zones i agrees h) in
     let after : sum_by (near_by (edge_term_of parts) (slice_index (moved_plan zones reading.unit zone)) reading.unit) (neighbours_of parts reading.unit) ≡ sum_below (length (neighbours_of parts reading.unit)) (neighbour_term parts reading zone) =
     near_terms parts reading zone (slice_index (moved_plan zones reading.unit zone)) (moved-own zones reading.unit zone inside)
-    (λ i h. moved-other zones reading.unit zone (neighbour_at parts reading.unit i) (All-get_or (λ (neighbour : ℕ × ℕ). neighbour.0 ≡ reading.unit → ⊥) (neighbours_of parts reading.unit) i (0, 0) h (neighbours_of-others parts reading.unit valid)) ∙ read_neighbour parts reading zones i agrees h) in
+    (λ i h. moved-other zones reading.unit zone (neighbour_at parts reading.unit i) (All-get_or (λ (neighbour : Neighbour). neighbour.unit ≡ reading.unit → ⊥) (neighbours_of parts reading.unit) i no_neighbour h (neighbours_of-others parts reading.unit valid)) ∙ read_neighbour parts reading zones i agrees h) in
     let own : edge_term_of parts (outer_at parts reading.unit) (slice_index zones reading.unit) parts.available ≡ edge_term_of parts (outer_at parts reading.unit) reading.zone parts.available = ap (λ k. edge_term_of parts (outer_at parts reading.unit) k parts.available) (sym agrees.unit) in
     omega (
       arith,

@@ -1,6 +1,5 @@
 pub mod AroundLaws
 pub mod DifferenceLaws
-pub mod ExampleLaws
 pub mod JudgeLaws
 pub mod MoveLaws
 pub mod PairLaws

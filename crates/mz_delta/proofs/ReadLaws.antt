@@ -4,12 +4,14 @@ use Rattle.std.specs.Prelude.{IsTrue, slice_index}
 use Rattle.std.specs.List.{All}
 use Rattle.std.proofs.lemmas.List.{get_or-map, length-map, length-take-le, take_all}
 use Rattle.std.proofs.lemmas.List.Elements.{All-get_or, All-head, All-map, All-tail, All-weaker}
+use Rattle.mz_model.specs.declared.neighbour.Neighbour.{Neighbour}
 use Rattle.mz_model.specs.declared.parts.Parts.{Parts}
-use Rattle.mz_model.specs.Boundary.{neighbours_of}
+use Rattle.mz_model.specs.declared.touch.Touch.{Touch}
+use Rattle.mz_model.specs.Boundary.{neighbours_of, no_neighbour}
 use Rattle.mz_model.specs.Parts.{unit_count, target_count}
 use Rattle.mz_num.specs.Places.{list_below}
 use Rattle.mz_model.specs.Plans.{IsLegalPlan}
-use Rattle.mz_model.specs.Targets.{amount_for, held_of, touched_rows, touches_of}
+use Rattle.mz_model.specs.Targets.{amount_for, as_touch, held_of, touched_rows, touches_of}
 use Rattle.mz_model.specs.Valid.{IsValid}
 use Rattle.mz_model.specs.Zones.{is_allowed}
 use Rattle.mz_model.proofs.NeighbourLaws.{neighbours_of-in_range}
@@ -44,16 +46,16 @@ pub totals_of_plan-all : (parts : Parts) (zones totals : List ℕ) (row : ℕ) �
 unfolding totals_of_plan
 totals_of_plan-all parts zones totals row all so_far = so_far ∙ ap (λ n. list_below n (held_of parts zones)) all
 
--- of pairs of a row and something that comes of it the rows alone
-map-firsts : (f g : ℕ → ℕ) (rows : List ℕ) → map (λ (pair : ℕ × ℕ). f pair.0) (map (λ row. (row, g row)) rows) ≡ map f rows
+-- of touched rows with amounts the rows alone
+map-firsts : (f g : ℕ → ℕ) (rows : List ℕ) → map (λ (touch : Touch). f touch.row) (map (λ row. as_touch row (g row)) rows) ≡ map f rows
 map-firsts f g [] = refl
 map-firsts f g (row ∷ rows) = ap (λ ys. f row ∷ ys) (map-firsts f g rows)
 
 -- the totals of all touched rows were read
-pub touched_totals-all : (parts : Parts) (unit i : ℕ) (totals read : List ℕ) (touches : List (ℕ × ℕ)) → touches ≡ touches_of parts unit → length touches ≤ i → read ≡ map (λ (touch : ℕ × ℕ). slice_index totals touch.0) (take i (touches_of parts unit)) → read ≡ map (slice_index totals) (touched_rows parts unit)
+pub touched_totals-all : (parts : Parts) (unit i : ℕ) (totals read : List ℕ) (touches : List Touch) → touches ≡ touches_of parts unit → length touches ≤ i → read ≡ map (λ (touch : Touch). slice_index totals touch.row) (take i (touches_of parts unit)) → read ≡ map (slice_index totals) (touched_rows parts unit)
 unfolding touches_of
 touched_totals-all parts unit i totals read touches e h so_far =
-    so_far ∙ ap (map (λ (touch : ℕ × ℕ). slice_index totals touch.0)) (take_all i (touches_of parts unit) (subst (λ (ts : List (ℕ × ℕ)). length ts ≤ i) e h))
+    so_far ∙ ap (map (λ (touch : Touch). slice_index totals touch.row)) (take_all i (touches_of parts unit) (subst (λ (ts : List Touch). length ts ≤ i) e h))
     ∙ map-firsts (slice_index totals) (λ row. amount_for parts row unit) (touched_rows parts unit)
 
 -- what was read of the unit and its items
@@ -73,14 +75,14 @@ read-agrees parts zones totals reading are read = record {
 -- a reading with which a legal plan agrees is well formed
 pub agrees-well_formed : (parts : Parts) (zones : List ℕ) (reading : Reading) → IsValid parts → IsLegalPlan parts zones → reading.unit < unit_count parts → Agrees parts zones reading → IsWellFormed parts reading
 agrees-well_formed parts zones reading valid legal h agrees =
-    let zone_of : ℕ × ℕ → ℕ = λ neighbour. slice_index zones neighbour.0 in
+    let zone_of : Neighbour → ℕ = λ neighbour. slice_index zones neighbour.unit in
     record {
       unit = h;
       zone = subst (λ zone. IsTrue (is_allowed parts reading.unit zone)) (sym agrees.unit) (legal.allowed reading.unit h);
       degree = ap length agrees.neighbours ∙ length-map (neighbours_of parts reading.unit) zone_of;
       neighbours = λ i g. subst (λ zone. IsTrue (is_allowed parts (neighbour_at parts reading.unit i) zone))
-          (sym (ap (λ (zs : List ℕ). get_or zs i 0) agrees.neighbours ∙ get_or-map zone_of (neighbours_of parts reading.unit) i (0, 0) 0 g))
-          (legal.allowed (neighbour_at parts reading.unit i) (All-get_or (λ (pair : ℕ × ℕ). pair.0 < unit_count parts) (neighbours_of parts reading.unit) i (0, 0) g (neighbours_of-in_range parts reading.unit valid)));
+          (sym (ap (λ (zs : List ℕ). get_or zs i 0) agrees.neighbours ∙ get_or-map zone_of (neighbours_of parts reading.unit) i no_neighbour 0 g))
+          (legal.allowed (neighbour_at parts reading.unit i) (All-get_or (λ (neighbour : Neighbour). neighbour.unit < unit_count parts) (neighbours_of parts reading.unit) i no_neighbour g (neighbours_of-in_range parts reading.unit valid)));
       touched = ap length agrees.totals ∙ length-map (touched_rows parts reading.unit) (held_of parts zones);
       totals = subst (All (λ total. total ≤ 10 ^ 18)) (sym agrees.totals)
           (All-map (λ total. total ≤ 10 ^ 18) (held_of parts zones) (touched_rows parts reading.unit)

@@ -1,4 +1,3 @@
-pub mod Examples
 pub mod Judged
 pub mod Move
 pub mod Reading

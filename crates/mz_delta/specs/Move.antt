@@ -1,7 +1,7 @@
 -- The move of a reading's unit to a zone: what stands round the unit, in one of its zones.
 use Rattle.std.specs.Prelude.{ℕ, ◌+◌, ◌-◌, List, length, slice_index, slice_index_or}
 use Rattle.mz_model.specs.declared.parts.Parts.{Parts}
-use Rattle.mz_model.specs.Boundary.{edge_term_of, neighbours_of}
+use Rattle.mz_model.specs.Boundary.{edge_term_of, neighbours_of, no_neighbour}
 use Rattle.mz_model.specs.Parts.{outer_at}
 use Rattle.mz_num.specs.Places.{list_below, sum_below}
 use Rattle.mz_model.specs.Scores.{penalty_term_of}
@@ -10,7 +10,7 @@ use Rattle.mz_delta.specs.declared.reading.Reading.{Reading}
 
 -- the term of a unit's pair with its neighbour i, the unit in the zone and the neighbour in the read one
 unfoldable pub neighbour_term : Parts → Reading → ℕ → ℕ → ℕ
-neighbour_term parts reading zone i = edge_term_of parts (slice_index_or (neighbours_of parts reading.unit) i (0, 0)).1 zone (slice_index reading.neighbours.items i)
+neighbour_term parts reading zone i = edge_term_of parts (slice_index_or (neighbours_of parts reading.unit) i no_neighbour).length zone (slice_index reading.neighbours.items i)
 
 -- the boundary round a reading's unit in that zone: its pairs, and its outer length
 unfoldable pub boundary_around : Parts → Reading → ℕ → ℕ

@@ -1,8 +1,9 @@
 -- Readings: well formed ones, and the plans that agree with them.
 use Rattle.std.specs.Prelude.{◌≡◌, ℕ, ◌<◌, ◌≤◌, ◌^◌, IsTrue, List, length, map, slice_index, slice_index_or}
 use Rattle.std.specs.List.{All}
+use Rattle.mz_model.specs.declared.neighbour.Neighbour.{Neighbour}
 use Rattle.mz_model.specs.declared.parts.Parts.{Parts}
-use Rattle.mz_model.specs.Boundary.{neighbours_of}
+use Rattle.mz_model.specs.Boundary.{neighbours_of, no_neighbour}
 use Rattle.mz_model.specs.Parts.{unit_count, target_count}
 use Rattle.mz_num.specs.Places.{list_below}
 use Rattle.mz_model.specs.Targets.{held_of, touched_rows}
@@ -11,7 +12,7 @@ use Rattle.mz_delta.specs.declared.reading.Reading.{Reading}
 
 -- the place of a unit's neighbour
 abbrev pub neighbour_at : Parts → ℕ → ℕ → ℕ
-neighbour_at parts unit i = (slice_index_or (neighbours_of parts unit) i (0, 0)).0
+neighbour_at parts unit i = (slice_index_or (neighbours_of parts unit) i no_neighbour).unit
 
 -- the unit is one of the problem, its zones are allowed for their units, there is a zone for each neighbour and a
 -- total for each touched row, and no total is above 10^18
@@ -25,7 +26,7 @@ pub record IsWellFormed (parts : Parts) (reading : Reading) : Type 0 where
 
 -- the zones of a unit's neighbours in a plan
 abbrev pub zones_around : Parts → List ℕ → ℕ → List ℕ
-zones_around parts zones unit = map (λ (neighbour : ℕ × ℕ). slice_index zones neighbour.0) (neighbours_of parts unit)
+zones_around parts zones unit = map (λ (neighbour : Neighbour). slice_index zones neighbour.unit) (neighbours_of parts unit)
 
 -- each item of the reading has its read value in the plan: the zone of a unit, or what is held for a target row
 pub record Agrees (parts : Parts) (zones : List ℕ) (reading : Reading) : Type 0 where

@@ -6,17 +6,10 @@
 
 mod difference;
 mod judged;
-mod judging;
 mod neighbourhood;
 mod reading;
-mod reads;
 mod rooms;
 
-pub use judged::Judged;
-pub use judging::{judge, judge_zone};
+pub use judged::{Judged, judge, judge_zone};
 pub use mz_num::Filled;
-pub use reading::Reading;
-pub use reads::{read_plan, totals_of};
-
-#[cfg(test)]
-mod tests;
+pub use reading::{Reading, read_plan, totals_of};

@@ -28,8 +28,8 @@ pub(crate) fn boundary_change(problem: &Problem, reading: &Reading, zone: u8) ->
     let mut after = 0;
     for (i, neighbour) in neighbours.iter().enumerate() {
         if problem.rate(reading.zone, zones[i]) != problem.rate(zone, zones[i]) {
-            let old_term = problem.edge_term(neighbour.1, reading.zone, zones[i]);
-            let new_term = problem.edge_term(neighbour.1, zone, zones[i]);
+            let old_term = problem.edge_term(neighbour.length, reading.zone, zones[i]);
+            let new_term = problem.edge_term(neighbour.length, zone, zones[i]);
             before += old_term as u128;
             after += new_term as u128;
         }
@@ -55,8 +55,8 @@ pub(crate) fn penalty_change(problem: &Problem, unit: u32, old: &[u64], new: &[u
     let mut after = 0;
     for (i, touch) in touches.iter().enumerate() {
         if old[i] != new[i] {
-            let old_penalty = problem.penalty_term(touch.0, old[i]);
-            let new_penalty = problem.penalty_term(touch.0, new[i]);
+            let old_penalty = problem.penalty_term(touch.row, old[i]);
+            let new_penalty = problem.penalty_term(touch.row, new[i]);
             before += old_penalty as u128;
             after += new_penalty as u128;
         }
@@ -77,8 +77,8 @@ pub(crate) fn move_totals(problem: &Problem, reading: &Reading, zone: u8, totals
     let held = reading.totals.as_slice();
     let touches = problem.touches(reading.unit);
     for (i, touch) in touches.iter().enumerate() {
-        let gained = problem.gain_from(touch.0, touch.1, zone);
-        let lost = problem.gain_from(touch.0, touch.1, reading.zone);
+        let gained = problem.gain_from(touch.row, touch.amount, zone);
+        let lost = problem.gain_from(touch.row, touch.amount, reading.zone);
         totals.push((held[i] + gained).saturating_sub(lost));
     }
 }

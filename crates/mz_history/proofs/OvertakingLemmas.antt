@@ -7,6 +7,7 @@ use Rattle.std.proofs.lemmas.List.{append-nil}
 use Rattle.std.proofs.lemmas.List.Folds.{list_any-append}
 use Rattle.mz_num.specs.Places.{places_below}
 use Rattle.mz_num.proofs.PlaceLaws.{places_below-more}
+use Rattle.mz_model.specs.declared.neighbour.Neighbour.{Neighbour}
 use Rattle.mz_model.specs.declared.parts.Parts.{Parts}
 use Rattle.mz_model.specs.Boundary.{neighbours_of}
 use Rattle.mz_model.specs.Items.{Item, items_of, row_item, unit_item}
@@ -44,33 +45,33 @@ around-refused parts unit entry e = sym (list_any-same (changes parts entry) (λ
 
 -- an accepted one changes its unit and the rows in which that gains otherwise
 pub around-accepted : (parts : Parts) (unit : ℕ) (entry : Entry) → entry.accepted ≡ true
-    → changes_around parts unit entry ≡ ((entry.unit == unit) || (list_any (λ (n : ℕ × ℕ). n.0 == entry.unit) (neighbours_of parts unit) || list_any (row_changed parts entry) (touched_rows parts unit)))
+    → changes_around parts unit entry ≡ ((entry.unit == unit) || (list_any (λ (n : Neighbour). n.unit == entry.unit) (neighbours_of parts unit) || list_any (row_changed parts entry) (touched_rows parts unit)))
 unfolding items_of
 around-accepted parts unit entry e =
-    ap (λ b. (b && entry.unit == unit) || list_any (changes parts entry) (map (λ (n : ℕ × ℕ). unit_item n.0) (neighbours_of parts unit) ++ map row_item (touched_rows parts unit))) e
+    ap (λ b. (b && entry.unit == unit) || list_any (changes parts entry) (map (λ (n : Neighbour). unit_item n.unit) (neighbours_of parts unit) ++ map row_item (touched_rows parts unit))) e
     ∙ ap (λ b. (entry.unit == unit) || b)
-    (list_any-append (changes parts entry) (map (λ (n : ℕ × ℕ). unit_item n.0) (neighbours_of parts unit)) (map row_item (touched_rows parts unit))
+    (list_any-append (changes parts entry) (map (λ (n : Neighbour). unit_item n.unit) (neighbours_of parts unit)) (map row_item (touched_rows parts unit))
     ∙ ap (λ b. b || list_any (changes parts entry) (map row_item (touched_rows parts unit)))
-    (list_any-map (changes parts entry) (λ (n : ℕ × ℕ). unit_item n.0) (neighbours_of parts unit) ∙ list_any-same _ _ (neighbours_of parts unit) (λ n. ap (λ b. b && entry.unit == n.0) e ∙ eqb-sym entry.unit n.0))
-    ∙ ap (λ b. list_any (λ (n : ℕ × ℕ). n.0 == entry.unit) (neighbours_of parts unit) || b)
+    (list_any-map (changes parts entry) (λ (n : Neighbour). unit_item n.unit) (neighbours_of parts unit) ∙ list_any-same _ _ (neighbours_of parts unit) (λ n. ap (λ b. b && entry.unit == n.unit) e ∙ eqb-sym entry.unit n.unit))
+    ∙ ap (λ b. list_any (λ (n : Neighbour). n.unit == entry.unit) (neighbours_of parts unit) || b)
     (list_any-map (changes parts entry) row_item (touched_rows parts unit) ∙ list_any-same _ _ (touched_rows parts unit) (λ row. ap (λ b. b && row_changed parts entry row) e)))
 
 pub around-own : (parts : Parts) (unit : ℕ) (entry : Entry) → entry.accepted ≡ true → entry.unit ≡ unit → true ≡ changes_around parts unit entry
 around-own parts unit entry accepted own =
-    sym (around-accepted parts unit entry accepted ∙ ap (λ b. b || (list_any (λ (n : ℕ × ℕ). n.0 == entry.unit) (neighbours_of parts unit) || list_any (row_changed parts entry) (touched_rows parts unit))) (eq-eqb entry.unit unit own))
+    sym (around-accepted parts unit entry accepted ∙ ap (λ b. b || (list_any (λ (n : Neighbour). n.unit == entry.unit) (neighbours_of parts unit) || list_any (row_changed parts entry) (touched_rows parts unit))) (eq-eqb entry.unit unit own))
 
 or_true : (a c : Bool) → (a || (true || c)) ≡ true
 or_true true c = refl
 or_true false c = refl
 
-pub around-neighbour : (parts : Parts) (unit : ℕ) (entry : Entry) → entry.accepted ≡ true → list_any (λ (n : ℕ × ℕ). n.0 == entry.unit) (neighbours_of parts unit) ≡ true → true ≡ changes_around parts unit entry
+pub around-neighbour : (parts : Parts) (unit : ℕ) (entry : Entry) → entry.accepted ≡ true → list_any (λ (n : Neighbour). n.unit == entry.unit) (neighbours_of parts unit) ≡ true → true ≡ changes_around parts unit entry
 around-neighbour parts unit entry accepted beside =
     sym (around-accepted parts unit entry accepted ∙ ap (λ b. (entry.unit == unit) || (b || list_any (row_changed parts entry) (touched_rows parts unit))) beside ∙ or_true (entry.unit == unit) (list_any (row_changed parts entry) (touched_rows parts unit)))
 
-pub around-rows : (parts : Parts) (unit : ℕ) (entry : Entry) (changed : Bool) → entry.accepted ≡ true → (entry.unit ≡ unit → ⊥) → list_any (λ (n : ℕ × ℕ). n.0 == entry.unit) (neighbours_of parts unit) ≡ false
+pub around-rows : (parts : Parts) (unit : ℕ) (entry : Entry) (changed : Bool) → entry.accepted ≡ true → (entry.unit ≡ unit → ⊥) → list_any (λ (n : Neighbour). n.unit == entry.unit) (neighbours_of parts unit) ≡ false
     → changed ≡ list_any (row_changed parts entry) (touched_rows parts unit) → changed ≡ changes_around parts unit entry
 around-rows parts unit entry changed accepted other apart rows =
-    rows ∙ sym (around-accepted parts unit entry accepted ∙ ap (λ b. b || (list_any (λ (n : ℕ × ℕ). n.0 == entry.unit) (neighbours_of parts unit) || list_any (row_changed parts entry) (touched_rows parts unit))) (ne_eqb entry.unit unit other)
+    rows ∙ sym (around-accepted parts unit entry accepted ∙ ap (λ b. b || (list_any (λ (n : Neighbour). n.unit == entry.unit) (neighbours_of parts unit) || list_any (row_changed parts entry) (touched_rows parts unit))) (ne_eqb entry.unit unit other)
     ∙ ap (λ b. b || list_any (row_changed parts entry) (touched_rows parts unit)) apart)
 
 -- ---- the last that overtakes

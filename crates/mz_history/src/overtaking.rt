@@ -62,12 +62,12 @@ fn changes_around(problem: &Problem, unit: u32, entry: &Entry) -> bool
 
 fn is_neighbour(problem: &Problem, unit: u32, other: u32) -> bool
     requires { unit < unit_count problem.now }
-    ensures { result ≡ list_any (λ neighbour. neighbour.0 == other) (neighbours_of problem.now unit) }
+    ensures { result ≡ list_any (λ neighbour. neighbour.unit == other) (neighbours_of problem.now unit) }
 {
     problem
         .neighbours(unit)
         .iter()
-        .any(|neighbour| neighbour.0 == other)
+        .any(|neighbour| neighbour.unit == other)
 }
 
 /// Whether the entry's unit gains otherwise in its new zone than in its old one, for a target row

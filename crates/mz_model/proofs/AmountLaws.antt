@@ -4,9 +4,11 @@ use Rattle.std.specs.List.{All, AllPairs, sum_by, filter}
 use Rattle.std.proofs.lemmas.Bool.{cases_Bool, eqb-true, eq-eqb, ne_eqb, cond-true, cond-false, and_from, and_left, and_right}
 use Rattle.std.proofs.lemmas.List.Elements.{All-head, All-tail, All-weaker, All-map}
 use Rattle.std.proofs.lemmas.List.Sums.{sum_by-cons}
+use Rattle.mz_model.specs.declared.touch.Touch.{Touch}
 use Rattle.mz_model.specs.Amounts.{amount_of, holder_of, holders_of}
 use Rattle.mz_num.specs.Places.{sum_below, values_at}
 use Rattle.mz_num.specs.Order.{IsBefore}
+use Rattle.mz_model.specs.Targets.{as_touch}
 use Rattle.mz_model.specs.Valid.{IsAmount}
 use Rattle.mz_num.proofs.PlaceLaws.{sum_below-same, sum_below-change, values_at-All}
 
@@ -78,30 +80,30 @@ holders_of-in_range rows feature units features all =
     values_at-All (λ holder. holder.0 < units) feature (map holder_of rows) (All-map (λ entry. entry.1.0 < units) holder_of rows (All-weaker (IsAmount units features) (λ row. row.0 < units) (λ row is. is.unit) rows all))
 
 -- an entry of a row for each unit that holds the feature enough
-abbrev pub entries_of : ℕ → (ℕ → Bool) → List (ℕ × ℕ) → List (ℕ × (ℕ × ℕ))
-entries_of row enough holders = map (λ (holder : ℕ × ℕ). (holder.0, (row, holder.1))) (filter (λ (holder : ℕ × ℕ). enough holder.1) holders)
+abbrev pub entries_of : ℕ → (ℕ → Bool) → List (ℕ × ℕ) → List (ℕ × Touch)
+entries_of row enough holders = map (λ (holder : ℕ × ℕ). (holder.0, as_touch row holder.1)) (filter (λ (holder : ℕ × ℕ). enough holder.1) holders)
 
 -- one more holder, which is the unit itself, or another
-entry_own : (unit row : ℕ) (enough : ℕ → Bool) (holder amount : ℕ) (holders : List (ℕ × ℕ)) → (holder == unit) ≡ true → values_at unit (entries_of row enough holders) ≡ [] → values_at unit (entries_of row enough ((holder, amount) ∷ holders)) ≡ cond (enough amount) ((row, amount) ∷ []) []
+entry_own : (unit row : ℕ) (enough : ℕ → Bool) (holder amount : ℕ) (holders : List (ℕ × ℕ)) → (holder == unit) ≡ true → values_at unit (entries_of row enough holders) ≡ [] → values_at unit (entries_of row enough ((holder, amount) ∷ holders)) ≡ cond (enough amount) (as_touch row amount ∷ []) []
 entry_own unit row enough holder amount holders own nothing =
-    elim (enough amount) as (λ b. values_at {X = ℕ × ℕ} unit (map (λ (h : ℕ × ℕ). (h.0, (row, h.1))) (cond b ((holder, amount) ∷ filter (λ (h : ℕ × ℕ). enough h.1) holders) (filter (λ (h : ℕ × ℕ). enough h.1) holders))) ≡ cond b ((row, amount) ∷ []) []) [
-      | true ↦ cond-true (holder == unit) ((row, amount) ∷ values_at unit (entries_of row enough holders)) (values_at unit (entries_of row enough holders)) own ∙ ap (λ vs. (row, amount) ∷ vs) nothing
+    elim (enough amount) as (λ b. values_at {X = Touch} unit (map (λ (h : ℕ × ℕ). (h.0, as_touch row h.1)) (cond b ((holder, amount) ∷ filter (λ (h : ℕ × ℕ). enough h.1) holders) (filter (λ (h : ℕ × ℕ). enough h.1) holders))) ≡ cond b (as_touch row amount ∷ []) []) [
+      | true ↦ cond-true (holder == unit) (as_touch row amount ∷ values_at unit (entries_of row enough holders)) (values_at unit (entries_of row enough holders)) own ∙ ap (λ vs. as_touch row amount ∷ vs) nothing
       | false ↦ nothing
     ]
 
 entry_other : (unit row : ℕ) (enough : ℕ → Bool) (holder amount : ℕ) (holders : List (ℕ × ℕ)) → (holder == unit) ≡ false → values_at unit (entries_of row enough ((holder, amount) ∷ holders)) ≡ values_at unit (entries_of row enough holders)
 entry_other unit row enough holder amount holders other =
-    elim (enough amount) as (λ b. values_at {X = ℕ × ℕ} unit (map (λ (h : ℕ × ℕ). (h.0, (row, h.1))) (cond b ((holder, amount) ∷ filter (λ (h : ℕ × ℕ). enough h.1) holders) (filter (λ (h : ℕ × ℕ). enough h.1) holders))) ≡ values_at unit (entries_of row enough holders)) [
-      | true ↦ cond-false (holder == unit) ((row, amount) ∷ values_at unit (entries_of row enough holders)) (values_at unit (entries_of row enough holders)) other
+    elim (enough amount) as (λ b. values_at {X = Touch} unit (map (λ (h : ℕ × ℕ). (h.0, as_touch row h.1)) (cond b ((holder, amount) ∷ filter (λ (h : ℕ × ℕ). enough h.1) holders) (filter (λ (h : ℕ × ℕ). enough h.1) holders))) ≡ values_at unit (entries_of row enough holders)) [
+      | true ↦ cond-false (holder == unit) (as_touch row amount ∷ values_at unit (entries_of row enough holders)) (values_at unit (entries_of row enough holders)) other
       | false ↦ refl
     ]
 
 -- what a unit has of them: the one of its amount, where that is enough
-pub values_at-entries_of : (rows : List (ℕ × ℕ × ℕ)) (feature unit row : ℕ) (enough : ℕ → Bool) → enough 0 ≡ false → AllPairs IsBefore rows → values_at unit (entries_of row enough (holders_of rows feature)) ≡ cond (enough (amount_of rows unit feature)) ((row, amount_of rows unit feature) ∷ []) []
-values_at-entries_of [] feature unit row enough none order = ap (λ hs. values_at unit (entries_of row enough hs)) (holders_of-nil feature) ∙ sym (cond-false (enough 0) ((row, 0) ∷ []) [] none)
+pub values_at-entries_of : (rows : List (ℕ × ℕ × ℕ)) (feature unit row : ℕ) (enough : ℕ → Bool) → enough 0 ≡ false → AllPairs IsBefore rows → values_at unit (entries_of row enough (holders_of rows feature)) ≡ cond (enough (amount_of rows unit feature)) (as_touch row (amount_of rows unit feature) ∷ []) []
+values_at-entries_of [] feature unit row enough none order = ap (λ hs. values_at unit (entries_of row enough hs)) (holders_of-nil feature) ∙ sym (cond-false (enough 0) (as_touch row 0 ∷ []) [] none)
 values_at-entries_of (a ∷ rows) feature unit row enough none order =
-    let rest : values_at unit (entries_of row enough (holders_of rows feature)) ≡ cond (enough (amount_of rows unit feature)) ((row, amount_of rows unit feature) ∷ []) [] = values_at-entries_of rows feature unit row enough none (AllPairs-tail IsBefore a rows order) in
-    let of_amount : ℕ → List (ℕ × ℕ) = λ n. cond (enough n) ((row, n) ∷ []) [] in
+    let rest : values_at unit (entries_of row enough (holders_of rows feature)) ≡ cond (enough (amount_of rows unit feature)) (as_touch row (amount_of rows unit feature) ∷ []) [] = values_at-entries_of rows feature unit row enough none (AllPairs-tail IsBefore a rows order) in
+    let of_amount : ℕ → List Touch = λ n. cond (enough n) (as_touch row n ∷ []) [] in
     ap (λ hs. values_at unit (entries_of row enough hs)) (holders_of-cons a rows feature)
     ∙ elim (cases_Bool (a.1 == feature)) [
       | inl found ↦ ap (λ hs. values_at unit (entries_of row enough hs)) (cond-true (a.1 == feature) ((a.0, a.2) ∷ holders_of rows feature) (holders_of rows feature) found)
@@ -109,7 +111,7 @@ values_at-entries_of (a ∷ rows) feature unit row enough none order =
             | inl own ↦ (
                 let amount : amount_of (a ∷ rows) unit feature ≡ a.2 = cond-true (is_row_of a unit feature) a.2 (amount_of rows unit feature) (and_from (a.0 == unit) (a.1 == feature) own found) in
                 let gone : amount_of rows unit feature ≡ 0 = amount_of-behind a rows unit feature (sym (eqb-true a.0 unit own)) (sym (eqb-true a.1 feature found)) (AllPairs-head IsBefore a rows order) in
-                let nothing : values_at unit (entries_of row enough (holders_of rows feature)) ≡ [] = rest ∙ ap of_amount gone ∙ cond-false (enough 0) ((row, 0) ∷ []) [] none in
+                let nothing : values_at unit (entries_of row enough (holders_of rows feature)) ≡ [] = rest ∙ ap of_amount gone ∙ cond-false (enough 0) (as_touch row 0 ∷ []) [] none in
                 entry_own unit row enough a.0 a.2 (holders_of rows feature) own nothing ∙ ap of_amount (sym amount))
             | inr other ↦ (
                 let amount : amount_of (a ∷ rows) unit feature ≡ amount_of rows unit feature = cond-false (is_row_of a unit feature) a.2 (amount_of rows unit feature) (and_left (a.0 == unit) (a.1 == feature) other) in

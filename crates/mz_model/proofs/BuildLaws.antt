@@ -10,15 +10,17 @@ use Rattle.std.proofs.lemmas.List.Elements.{filter-append, All-get_or, All-same}
 use Rattle.mz_num.specs.Round.{round}
 use Rattle.mz_num.proofs.RoundLaws.{round-multiple}
 use Rattle.std.proofs.Math.Nat.{mul-le-mul_left}
+use Rattle.mz_model.specs.declared.neighbour.Neighbour.{Neighbour}
 use Rattle.mz_model.specs.declared.parts.Parts.{Parts}
 use Rattle.mz_model.specs.declared.parts.Target.{Target}
+use Rattle.mz_model.specs.declared.touch.Touch.{Touch}
 use Rattle.mz_model.specs.Amounts.{amount_of, holder_of, holders_of}
-use Rattle.mz_model.specs.Boundary.{ends_of, neighbours_of}
+use Rattle.mz_model.specs.Boundary.{as_neighbour, ends_of, neighbours_of}
 use Rattle.mz_model.specs.Built.{greatest_part_in, greatest_part_of, touching}
 use Rattle.mz_model.specs.Groups.{Filling, HasRoom, counts_with, filled}
 use Rattle.mz_model.specs.Parts.{unit_count, zone_count, feature_count, target_count, fraction_at, no_target, target_at}
 use Rattle.mz_num.specs.Places.{greatest_below, list_below, places_below, values_at}
-use Rattle.mz_model.specs.Targets.{counted, gain_from, gain_of, amount_for, is_touched, touched_rows, touches_of}
+use Rattle.mz_model.specs.Targets.{as_touch, counted, gain_from, gain_of, amount_for, is_touched, touched_rows, touches_of}
 use Rattle.mz_model.specs.Valid.{IsPair, IsValid}
 use Rattle.mz_model.proofs.AmountLaws.{values_at-entries_of}
 use Rattle.mz_model.proofs.ListLaws.{IsRow, table-row}
@@ -137,13 +139,13 @@ room-next {X} start lists room before all behind j x has split now h =
 
 -- ---- neighbours and holders
 
-pub ends-more : (edges : List (ℕ × ℕ × ℕ)) (i : ℕ) (d : ℕ × ℕ × ℕ) → i < length edges → flat_map ends_of (take (i + 1) edges) ≡ (flat_map ends_of (take i edges) ++ ((get_or edges i d).0, ((get_or edges i d).1, (get_or edges i d).2)) ∷ []) ++ ((get_or edges i d).1, ((get_or edges i d).0, (get_or edges i d).2)) ∷ []
+pub ends-more : (edges : List (ℕ × ℕ × ℕ)) (i : ℕ) (d : ℕ × ℕ × ℕ) → i < length edges → flat_map ends_of (take (i + 1) edges) ≡ (flat_map ends_of (take i edges) ++ ((get_or edges i d).0, as_neighbour (get_or edges i d).1 (get_or edges i d).2) ∷ []) ++ ((get_or edges i d).1, as_neighbour (get_or edges i d).0 (get_or edges i d).2) ∷ []
 ends-more edges i d h =
     let e : ℕ × ℕ × ℕ = get_or edges i d in
     ap (flat_map ends_of) (take_more edges i d h) ∙ flat_map-append ends_of (take i edges) (e ∷ [])
-    ∙ sym (append_assoc (flat_map ends_of (take i edges)) ((e.0, (e.1, e.2)) ∷ []) ((e.1, (e.0, e.2)) ∷ []))
+    ∙ sym (append_assoc (flat_map ends_of (take i edges)) ((e.0, as_neighbour e.1 e.2) ∷ []) ((e.1, as_neighbour e.0 e.2) ∷ []))
 
-neighbours-table : (parts : Parts) (lists : List (List (ℕ × ℕ))) → lists ≡ filled (list_below {X = List (ℕ × ℕ)} (unit_count parts) (λ k. [])) (flat_map ends_of parts.edges) → lists ≡ list_below (unit_count parts) (neighbours_of parts)
+neighbours-table : (parts : Parts) (lists : List (List Neighbour)) → lists ≡ filled (list_below {X = List Neighbour} (unit_count parts) (λ k. [])) (flat_map ends_of parts.edges) → lists ≡ list_below (unit_count parts) (neighbours_of parts)
 unfolding neighbours_of
 neighbours-table parts lists e = e ∙ filled-empty (unit_count parts) (flat_map ends_of parts.edges)
 
@@ -151,30 +153,30 @@ pub pair-at : (parts : Parts) (edges : List (ℕ × ℕ × ℕ)) (i : ℕ) → I
 pair-at parts edges i valid e h = All-get_or (IsPair (unit_count parts)) edges i (0, 0, 0) h (All-same (IsPair (unit_count parts)) edges parts.edges e valid.shape.pairs)
 
 -- as many lists as before
-pub length-empty-filled : (n : ℕ) (lists : List (List (ℕ × ℕ))) (es : List (ℕ × (ℕ × ℕ))) → lists ≡ filled (empty_lists n) es → length lists ≡ n
-length-empty-filled n lists es e = ap length e ∙ length-filled {X = ℕ × ℕ} (empty_lists n) es ∙ length-list_below {X = List (ℕ × ℕ)} n (λ k. [])
+pub length-empty-filled : {X : Type 0} (n : ℕ) (lists : List (List X)) (es : List (ℕ × X)) → lists ≡ filled (empty_lists n) es → length lists ≡ n
+length-empty-filled {X} n lists es e = ap length e ∙ length-filled {X = X} (empty_lists n) es ∙ length-list_below {X = List X} n (λ k. [])
 
 pub rows-split : (rows : List (ℕ × ℕ × ℕ)) (i : ℕ) → i < length rows → map holder_of rows ≡ (map holder_of (take i rows) ++ ((get_or rows i (0, 0, 0)).1, ((get_or rows i (0, 0, 0)).0, (get_or rows i (0, 0, 0)).2)) ∷ []) ++ map holder_of (drop (i + 1) rows)
 rows-split rows i h = ap (map holder_of) (sym (take-append-drop (i + 1) rows)) ∙ map-append holder_of (take (i + 1) rows) (drop (i + 1) rows) ∙ ap (λ es. es ++ map holder_of (drop (i + 1) rows)) (map_more holder_of rows i (0, 0, 0) h)
 
 pub ends-split : (edges : List (ℕ × ℕ × ℕ)) (i : ℕ) → i < length edges
-    → flat_map ends_of edges ≡ ((flat_map ends_of (take i edges) ++ ((get_or edges i (0, 0, 0)).0, ((get_or edges i (0, 0, 0)).1, (get_or edges i (0, 0, 0)).2)) ∷ []) ++ ((get_or edges i (0, 0, 0)).1, ((get_or edges i (0, 0, 0)).0, (get_or edges i (0, 0, 0)).2)) ∷ []) ++ flat_map ends_of (drop (i + 1) edges)
+    → flat_map ends_of edges ≡ ((flat_map ends_of (take i edges) ++ ((get_or edges i (0, 0, 0)).0, as_neighbour (get_or edges i (0, 0, 0)).1 (get_or edges i (0, 0, 0)).2) ∷ []) ++ ((get_or edges i (0, 0, 0)).1, as_neighbour (get_or edges i (0, 0, 0)).0 (get_or edges i (0, 0, 0)).2) ∷ []) ++ flat_map ends_of (drop (i + 1) edges)
 ends-split edges i h = ap (flat_map ends_of) (sym (take-append-drop (i + 1) edges)) ∙ flat_map-append ends_of (take (i + 1) edges) (drop (i + 1) edges) ∙ ap (λ es. es ++ flat_map ends_of (drop (i + 1) edges)) (ends-more edges i (0, 0, 0) h)
 
 -- the lists behind one more pair
-pub neighbours-more : (n : ℕ) (edges : List (ℕ × ℕ × ℕ)) (i : ℕ) (lists one two : List (List (ℕ × ℕ))) → i < length edges → IsPair n (get_or edges i (0, 0, 0)) → lists ≡ filled (empty_lists n) (flat_map ends_of (take i edges))
-    → one ≡ set lists (get_or edges i (0, 0, 0)).0 (get_or lists (get_or edges i (0, 0, 0)).0 [] ++ ((get_or edges i (0, 0, 0)).1, (get_or edges i (0, 0, 0)).2) ∷ [])
-    → two ≡ set one (get_or edges i (0, 0, 0)).1 (get_or one (get_or edges i (0, 0, 0)).1 [] ++ ((get_or edges i (0, 0, 0)).0, (get_or edges i (0, 0, 0)).2) ∷ [])
+pub neighbours-more : (n : ℕ) (edges : List (ℕ × ℕ × ℕ)) (i : ℕ) (lists one two : List (List Neighbour)) → i < length edges → IsPair n (get_or edges i (0, 0, 0)) → lists ≡ filled (empty_lists n) (flat_map ends_of (take i edges))
+    → one ≡ set lists (get_or edges i (0, 0, 0)).0 (get_or lists (get_or edges i (0, 0, 0)).0 [] ++ as_neighbour (get_or edges i (0, 0, 0)).1 (get_or edges i (0, 0, 0)).2 ∷ [])
+    → two ≡ set one (get_or edges i (0, 0, 0)).1 (get_or one (get_or edges i (0, 0, 0)).1 [] ++ as_neighbour (get_or edges i (0, 0, 0)).0 (get_or edges i (0, 0, 0)).2 ∷ [])
     → two ≡ filled (empty_lists n) (flat_map ends_of (take (i + 1) edges))
 neighbours-more n edges i lists one two h is now first second =
     let e : ℕ × ℕ × ℕ = get_or edges i (0, 0, 0) in
-    let len : length (empty_lists n) ≡ n = length-list_below {X = List (ℕ × ℕ)} n (λ k. []) in
-    let es : List (ℕ × (ℕ × ℕ)) = flat_map ends_of (take i edges) in
-    let so_far : one ≡ filled (empty_lists n) (es ++ (e.0, (e.1, e.2)) ∷ []) = filled-push (empty_lists n) lists one es e.0 (e.1, e.2) now (omega (arith, is.first, is.second)) first in
-    filled-push (empty_lists n) one two (es ++ (e.0, (e.1, e.2)) ∷ []) e.1 (e.0, e.2) so_far (omega (arith, is.second)) second
+    let len : length (empty_lists n) ≡ n = length-list_below {X = List Neighbour} n (λ k. []) in
+    let es : List (ℕ × Neighbour) = flat_map ends_of (take i edges) in
+    let so_far : one ≡ filled (empty_lists n) (es ++ (e.0, as_neighbour e.1 e.2) ∷ []) = filled-push (empty_lists n) lists one es e.0 (as_neighbour e.1 e.2) now (omega (arith, is.first, is.second)) first in
+    filled-push (empty_lists n) one two (es ++ (e.0, as_neighbour e.1 e.2) ∷ []) e.1 (as_neighbour e.0 e.2) so_far (omega (arith, is.second)) second
     ∙ ap (filled (empty_lists n)) (sym (ends-more edges i (0, 0, 0) h))
 
-pub neighbours-done : (parts : Parts) (edges : List (ℕ × ℕ × ℕ)) (i : ℕ) (lists : List (List (ℕ × ℕ))) → edges ≡ parts.edges → length edges ≤ i → lists ≡ filled (empty_lists (unit_count parts)) (flat_map ends_of (take i edges)) → lists ≡ list_below (unit_count parts) (neighbours_of parts)
+pub neighbours-done : (parts : Parts) (edges : List (ℕ × ℕ × ℕ)) (i : ℕ) (lists : List (List Neighbour)) → edges ≡ parts.edges → length edges ≤ i → lists ≡ filled (empty_lists (unit_count parts)) (flat_map ends_of (take i edges)) → lists ≡ list_below (unit_count parts) (neighbours_of parts)
 neighbours-done parts edges i lists e h now = neighbours-table parts lists (now ∙ ap (λ es. filled (empty_lists (unit_count parts)) (flat_map ends_of es)) (take_all i edges h ∙ e))
 
 -- the lists behind one more amount
@@ -232,9 +234,9 @@ pub neighbour_counts-more : (n : ℕ) (edges : List (ℕ × ℕ × ℕ)) (i : �
     → two ≡ set one (get_or edges i (0, 0, 0)).1 (get_or one (get_or edges i (0, 0, 0)).1 0 + 1) → two ≡ counts_with (replicate n 0) (flat_map ends_of (take (i + 1) edges))
 neighbour_counts-more n edges i counts one two h is now first second =
     let e : ℕ × ℕ × ℕ = get_or edges i (0, 0, 0) in
-    let es : List (ℕ × (ℕ × ℕ)) = flat_map ends_of (take i edges) in
-    let so_far : one ≡ counts_with (replicate n 0) (es ++ (e.0, (e.1, e.2)) ∷ []) = counts_with-push (replicate n 0) counts one es e.0 (e.1, e.2) now (omega (arith, length-replicate {A = ℕ} n 0, is.first, is.second)) first in
-    counts_with-push (replicate n 0) one two (es ++ (e.0, (e.1, e.2)) ∷ []) e.1 (e.0, e.2) so_far (omega (arith, length-replicate {A = ℕ} n 0, is.second)) second
+    let es : List (ℕ × Neighbour) = flat_map ends_of (take i edges) in
+    let so_far : one ≡ counts_with (replicate n 0) (es ++ (e.0, as_neighbour e.1 e.2) ∷ []) = counts_with-push (replicate n 0) counts one es e.0 (as_neighbour e.1 e.2) now (omega (arith, length-replicate {A = ℕ} n 0, is.first, is.second)) first in
+    counts_with-push (replicate n 0) one two (es ++ (e.0, as_neighbour e.1 e.2) ∷ []) e.1 (as_neighbour e.0 e.2) so_far (omega (arith, length-replicate {A = ℕ} n 0, is.second)) second
     ∙ ap (counts_with (replicate n 0)) (sym (ends-more edges i (0, 0, 0) h))
 
 pub neighbour_counts-done : (parts : Parts) (edges : List (ℕ × ℕ × ℕ)) (i : ℕ) (counts : List ℕ) → edges ≡ parts.edges → length edges ≤ i → counts ≡ counts_with (replicate (unit_count parts) 0) (flat_map ends_of (take i edges)) → counts ≡ map length (list_below (unit_count parts) (neighbours_of parts))
@@ -242,64 +244,64 @@ unfolding neighbours_of
 neighbour_counts-done parts edges i counts e h now = now ∙ ap (λ es. counts_with (replicate (unit_count parts) 0) (flat_map ends_of es)) (take_all i edges h ∙ e) ∙ counted-all (unit_count parts) (flat_map ends_of parts.edges)
 
 -- lists of neighbours as they are filled: some, and the room of all
-pub record AreNeighbours (parts : Parts) (i : ℕ) (filling : Filling (ℕ × ℕ)) : Type 0 where
+pub record AreNeighbours (parts : Parts) (i : ℕ) (filling : Filling Neighbour) : Type 0 where
   pub lists : filling.lists ≡ filled (empty_lists (unit_count parts)) (flat_map ends_of (take i parts.edges))
   pub room : filling.room ≡ map length (list_below (unit_count parts) (neighbours_of parts))
 
-pub neighbours-start : (parts : Parts) (counts : List ℕ) (filling : Filling (ℕ × ℕ)) → counts ≡ map length (list_below (unit_count parts) (neighbours_of parts)) → filling ≡ record { lists = empty_lists (length counts); room = counts } → AreNeighbours parts 0 filling
+pub neighbours-start : (parts : Parts) (counts : List ℕ) (filling : Filling Neighbour) → counts ≡ map length (list_below (unit_count parts) (neighbours_of parts)) → filling ≡ record { lists = empty_lists (length counts); room = counts } → AreNeighbours parts 0 filling
 neighbours-start parts counts filling e is =
     let n : ℕ = unit_count parts in
     let len : length counts ≡ n = ap length e ∙ length-map (list_below n (neighbours_of parts)) length ∙ length-list_below n (neighbours_of parts) in
     record {
-      lists = ap (λ (v : Filling (ℕ × ℕ)). v.lists) is ∙ ap (λ m. empty_lists {X = ℕ × ℕ} m) len ∙ filled-none (empty_lists {X = ℕ × ℕ} n);
-      room = ap (λ (v : Filling (ℕ × ℕ)). v.room) is ∙ e;
+      lists = ap (λ (v : Filling Neighbour). v.lists) is ∙ ap (λ m. empty_lists {X = Neighbour} m) len ∙ filled-none (empty_lists {X = Neighbour} n);
+      room = ap (λ (v : Filling Neighbour). v.room) is ∙ e;
     }
 
 -- the pair that comes next, and the lists behind its first end
-pub record IsNextPair (parts : Parts) (i : ℕ) (e : ℕ × ℕ × ℕ) (filling one : Filling (ℕ × ℕ)) : Type 0 where
+pub record IsNextPair (parts : Parts) (i : ℕ) (e : ℕ × ℕ × ℕ) (filling one : Filling Neighbour) : Type 0 where
   pub first_in : e.0 < length filling.lists
   pub first_room : length (get_or filling.lists e.0 []) < get_or filling.room e.0 0
   pub second_in : e.1 < length one.lists
   pub second_room : length (get_or one.lists e.1 []) < get_or one.room e.1 0
 
-pub neighbours-open : (parts : Parts) (edges : List (ℕ × ℕ × ℕ)) (i : ℕ) (filling one : Filling (ℕ × ℕ)) → IsValid parts → edges ≡ parts.edges → i < length edges → AreNeighbours parts i filling
-    → one ≡ record filling { lists = set filling.lists (get_or edges i (0, 0, 0)).0 (get_or filling.lists (get_or edges i (0, 0, 0)).0 [] ++ ((get_or edges i (0, 0, 0)).1, (get_or edges i (0, 0, 0)).2) ∷ []) } → IsNextPair parts i (get_or edges i (0, 0, 0)) filling one
+pub neighbours-open : (parts : Parts) (edges : List (ℕ × ℕ × ℕ)) (i : ℕ) (filling one : Filling Neighbour) → IsValid parts → edges ≡ parts.edges → i < length edges → AreNeighbours parts i filling
+    → one ≡ record filling { lists = set filling.lists (get_or edges i (0, 0, 0)).0 (get_or filling.lists (get_or edges i (0, 0, 0)).0 [] ++ as_neighbour (get_or edges i (0, 0, 0)).1 (get_or edges i (0, 0, 0)).2 ∷ []) } → IsNextPair parts i (get_or edges i (0, 0, 0)) filling one
 unfolding neighbours_of
 neighbours-open parts edges i filling one valid same h are first =
     let n : ℕ = unit_count parts in
     let e : ℕ × ℕ × ℕ = get_or edges i (0, 0, 0) in
     let is : IsPair n e = pair-at parts edges i valid same h in
-    let es : List (ℕ × (ℕ × ℕ)) = flat_map ends_of (take i edges) in
-    let all : List (ℕ × (ℕ × ℕ)) = flat_map ends_of edges in
-    let rest : List (ℕ × (ℕ × ℕ)) = flat_map ends_of (drop (i + 1) edges) in
-    let own : ℕ × (ℕ × ℕ) = (e.0, (e.1, e.2)) in
-    let other : ℕ × (ℕ × ℕ) = (e.1, (e.0, e.2)) in
+    let es : List (ℕ × Neighbour) = flat_map ends_of (take i edges) in
+    let all : List (ℕ × Neighbour) = flat_map ends_of edges in
+    let rest : List (ℕ × Neighbour) = flat_map ends_of (drop (i + 1) edges) in
+    let own : ℕ × Neighbour = (e.0, as_neighbour e.1 e.2) in
+    let other : ℕ × Neighbour = (e.1, as_neighbour e.0 e.2) in
     let now : filling.lists ≡ filled (empty_lists n) es = are.lists ∙ ap (λ xs. filled (empty_lists n) (flat_map ends_of (take i xs))) (sym same) in
     let has : HasRoom (record { lists = empty_lists n; room = filling.room }) all =
     counted-room (empty_lists n) filling.room all (are.room ∙ ap (map length) (sym (filled-empty n (flat_map ends_of parts.edges)) ∙ ap (λ xs. filled (empty_lists n) (flat_map ends_of xs)) (sym same))) in
     let split : all ≡ ((es ++ own ∷ []) ++ other ∷ []) ++ rest = ends-split edges i h in
-    let so_far : one.lists ≡ filled (empty_lists n) (es ++ own ∷ []) = filled-push (empty_lists n) filling.lists one.lists es e.0 (e.1, e.2) now (omega (arith, length-empty_lists (ℕ × ℕ) n, is.first, is.second)) (ap (λ (v : Filling (ℕ × ℕ)). v.lists) first) in
-    let room : one.room ≡ filling.room = ap (λ (v : Filling (ℕ × ℕ)). v.room) first in
+    let so_far : one.lists ≡ filled (empty_lists n) (es ++ own ∷ []) = filled-push (empty_lists n) filling.lists one.lists es e.0 (as_neighbour e.1 e.2) now (omega (arith, length-empty_lists Neighbour n, is.first, is.second)) (ap (λ (v : Filling Neighbour). v.lists) first) in
+    let room : one.room ≡ filling.room = ap (λ (v : Filling Neighbour). v.room) first in
     let len : length one.lists ≡ n = length-empty-filled n one.lists (es ++ own ∷ []) so_far in
     record {
       first_in = omega (arith, length-empty-filled n filling.lists es now, is.first, is.second);
-      first_room = room-next (empty_lists n) filling.lists filling.room es all (other ∷ rest) e.0 (e.1, e.2) has (split ∙ append_assoc (es ++ own ∷ []) (other ∷ []) rest) now (omega (arith, length-empty_lists (ℕ × ℕ) n, is.first, is.second));
+      first_room = room-next (empty_lists n) filling.lists filling.room es all (other ∷ rest) e.0 (as_neighbour e.1 e.2) has (split ∙ append_assoc (es ++ own ∷ []) (other ∷ []) rest) now (omega (arith, length-empty_lists Neighbour n, is.first, is.second));
       second_in = omega (arith, is.second);
-      second_room = subst (λ rs. length (get_or one.lists e.1 []) < get_or rs e.1 0) (sym room) (room-next (empty_lists n) one.lists filling.room (es ++ own ∷ []) all rest e.1 (e.0, e.2) has split so_far (omega (arith, length-empty_lists (ℕ × ℕ) n, is.second)));
+      second_room = subst (λ rs. length (get_or one.lists e.1 []) < get_or rs e.1 0) (sym room) (room-next (empty_lists n) one.lists filling.room (es ++ own ∷ []) all rest e.1 (as_neighbour e.0 e.2) has split so_far (omega (arith, length-empty_lists Neighbour n, is.second)));
     }
 
-pub neighbours-next : (parts : Parts) (edges : List (ℕ × ℕ × ℕ)) (i : ℕ) (filling one two : Filling (ℕ × ℕ)) → IsValid parts → edges ≡ parts.edges → i < length edges → AreNeighbours parts i filling
-    → one ≡ record filling { lists = set filling.lists (get_or edges i (0, 0, 0)).0 (get_or filling.lists (get_or edges i (0, 0, 0)).0 [] ++ ((get_or edges i (0, 0, 0)).1, (get_or edges i (0, 0, 0)).2) ∷ []) }
-    → two ≡ record one { lists = set one.lists (get_or edges i (0, 0, 0)).1 (get_or one.lists (get_or edges i (0, 0, 0)).1 [] ++ ((get_or edges i (0, 0, 0)).0, (get_or edges i (0, 0, 0)).2) ∷ []) } → AreNeighbours parts (i + 1) two
+pub neighbours-next : (parts : Parts) (edges : List (ℕ × ℕ × ℕ)) (i : ℕ) (filling one two : Filling Neighbour) → IsValid parts → edges ≡ parts.edges → i < length edges → AreNeighbours parts i filling
+    → one ≡ record filling { lists = set filling.lists (get_or edges i (0, 0, 0)).0 (get_or filling.lists (get_or edges i (0, 0, 0)).0 [] ++ as_neighbour (get_or edges i (0, 0, 0)).1 (get_or edges i (0, 0, 0)).2 ∷ []) }
+    → two ≡ record one { lists = set one.lists (get_or edges i (0, 0, 0)).1 (get_or one.lists (get_or edges i (0, 0, 0)).1 [] ++ as_neighbour (get_or edges i (0, 0, 0)).0 (get_or edges i (0, 0, 0)).2 ∷ []) } → AreNeighbours parts (i + 1) two
 neighbours-next parts edges i filling one two valid same h are first second =
     let n : ℕ = unit_count parts in
     record {
-      lists = neighbours-more n edges i filling.lists one.lists two.lists h (pair-at parts edges i valid same h) (are.lists ∙ ap (λ xs. filled (empty_lists n) (flat_map ends_of (take i xs))) (sym same)) (ap (λ (v : Filling (ℕ × ℕ)). v.lists) first) (ap (λ (v : Filling (ℕ × ℕ)). v.lists) second)
+      lists = neighbours-more n edges i filling.lists one.lists two.lists h (pair-at parts edges i valid same h) (are.lists ∙ ap (λ xs. filled (empty_lists n) (flat_map ends_of (take i xs))) (sym same)) (ap (λ (v : Filling Neighbour). v.lists) first) (ap (λ (v : Filling Neighbour). v.lists) second)
           ∙ ap (λ xs. filled (empty_lists n) (flat_map ends_of (take (i + 1) xs))) same;
-      room = ap (λ (v : Filling (ℕ × ℕ)). v.room) second ∙ ap (λ (v : Filling (ℕ × ℕ)). v.room) first ∙ are.room;
+      room = ap (λ (v : Filling Neighbour). v.room) second ∙ ap (λ (v : Filling Neighbour). v.room) first ∙ are.room;
     }
 
-pub neighbours-whole : (parts : Parts) (edges : List (ℕ × ℕ × ℕ)) (i : ℕ) (filling : Filling (ℕ × ℕ)) → edges ≡ parts.edges → length edges ≤ i → AreNeighbours parts i filling → filling.lists ≡ list_below (unit_count parts) (neighbours_of parts)
+pub neighbours-whole : (parts : Parts) (edges : List (ℕ × ℕ × ℕ)) (i : ℕ) (filling : Filling Neighbour) → edges ≡ parts.edges → length edges ≤ i → AreNeighbours parts i filling → filling.lists ≡ list_below (unit_count parts) (neighbours_of parts)
 neighbours-whole parts edges i filling same h are = neighbours-done parts parts.edges i filling.lists refl (subst (λ xs. length xs ≤ i) same h) are.lists
 
 -- the lists by feature, of the rows and the number of features as they were read
@@ -309,12 +311,12 @@ holders-are parts rows n lists e f is = is ∙ ap (λ rs. list_below n (holders_
 -- ---- touched rows
 
 -- the rows before n for which a unit gains in some zone, each with its amount
-abbrev pub touches_upto : Parts → ℕ → ℕ → List (ℕ × ℕ)
-touches_upto parts n unit = map (λ row. (row, amount_for parts row unit)) (places_below n (is_touched parts unit))
+abbrev pub touches_upto : Parts → ℕ → ℕ → List Touch
+touches_upto parts n unit = map (λ row. as_touch row (amount_for parts row unit)) (places_below n (is_touched parts unit))
 
-pub touching-more : (row part : ℕ) (holders : List (ℕ × ℕ)) (i : ℕ) (d : ℕ × ℕ) → i < length holders → touching row part (take (i + 1) holders) ≡ touching row part (take i holders) ++ cond (nat_le 500000 ((get_or holders i d).1 * part)) (((get_or holders i d).0, (row, (get_or holders i d).1)) ∷ []) []
+pub touching-more : (row part : ℕ) (holders : List (ℕ × ℕ)) (i : ℕ) (d : ℕ × ℕ) → i < length holders → touching row part (take (i + 1) holders) ≡ touching row part (take i holders) ++ cond (nat_le 500000 ((get_or holders i d).1 * part)) (((get_or holders i d).0, as_touch row (get_or holders i d).1) ∷ []) []
 touching-more row part holders i d h =
-    let entry : ℕ × ℕ → ℕ × (ℕ × ℕ) = λ (holder : ℕ × ℕ). (holder.0, (row, holder.1)) in
+    let entry : ℕ × ℕ → ℕ × Touch = λ (holder : ℕ × ℕ). (holder.0, as_touch row holder.1) in
     let test : ℕ × ℕ → Bool = λ (holder : ℕ × ℕ). nat_le 500000 (holder.1 * part) in
     let last : ℕ × ℕ = get_or holders i d in
     ap (touching row part) (take_more holders i d h) ∙ ap (map entry) (filter-append test (take i holders) (last ∷ [])) ∙ map-append entry (filter test (take i holders)) (filter test (last ∷ []))
@@ -389,34 +391,34 @@ is_touched-is parts row unit inside =
     ∙ round-positive (amount_for parts row unit * greatest_part_of parts (target_at parts row))
 
 -- what a row adds to a unit's list
-pub values_at-touching : (parts : Parts) (row unit part : ℕ) → IsValid parts → IsSomeOrNone (zone_count parts) (target_at parts row).zone → part ≡ greatest_part_of parts (target_at parts row) → values_at unit (touching row part (holders_of parts.amounts (target_at parts row).feature)) ≡ cond (is_touched parts unit row) ((row, amount_for parts row unit) ∷ []) []
+pub values_at-touching : (parts : Parts) (row unit part : ℕ) → IsValid parts → IsSomeOrNone (zone_count parts) (target_at parts row).zone → part ≡ greatest_part_of parts (target_at parts row) → values_at unit (touching row part (holders_of parts.amounts (target_at parts row).feature)) ≡ cond (is_touched parts unit row) (as_touch row (amount_for parts row unit) ∷ []) []
 unfolding amount_for
 values_at-touching parts row unit part valid inside e =
     let enough : ℕ → Bool = λ amount. nat_le 500000 (amount * part) in
     values_at-entries_of parts.amounts (target_at parts row).feature unit row enough (lt-leb 500000 (0 * part) (omega arith)) valid.shape.amounts_in_order
-    ∙ ap (λ b. cond b ((row, amount_of parts.amounts unit (target_at parts row).feature) ∷ []) []) (ap (λ p. nat_le 500000 (amount_of parts.amounts unit (target_at parts row).feature * p)) e ∙ sym (is_touched-is parts row unit inside))
+    ∙ ap (λ b. cond b (as_touch row (amount_of parts.amounts unit (target_at parts row).feature) ∷ []) []) (ap (λ p. nat_le 500000 (amount_of parts.amounts unit (target_at parts row).feature * p)) e ∙ sym (is_touched-is parts row unit inside))
 
-pub touches_upto-more : (parts : Parts) (row unit : ℕ) → touches_upto parts (row + 1) unit ≡ touches_upto parts row unit ++ cond (is_touched parts unit row) ((row, amount_for parts row unit) ∷ []) []
+pub touches_upto-more : (parts : Parts) (row unit : ℕ) → touches_upto parts (row + 1) unit ≡ touches_upto parts row unit ++ cond (is_touched parts unit row) (as_touch row (amount_for parts row unit) ∷ []) []
 touches_upto-more parts row unit =
-    let entry : ℕ → ℕ × ℕ = λ r. (r, amount_for parts r unit) in
+    let entry : ℕ → Touch = λ r. as_touch r (amount_for parts r unit) in
     ap (map entry) (places_below-more row (is_touched parts unit)) ∙ map-append entry (places_below row (is_touched parts unit)) (cond (is_touched parts unit row) (row ∷ []) [])
-    ∙ ap (λ es. touches_upto parts row unit ++ es) (elim (is_touched parts unit row) as (λ b. ◌≡◌ {A = List (ℕ × ℕ)} (map entry (cond b (row ∷ []) [])) (cond b (entry row ∷ []) [])) [ true ↦ refl | false ↦ refl ])
+    ∙ ap (λ es. touches_upto parts row unit ++ es) (elim (is_touched parts unit row) as (λ b. ◌≡◌ {A = List Touch} (map entry (cond b (row ∷ []) [])) (cond b (entry row ∷ []) [])) [ true ↦ refl | false ↦ refl ])
 
 -- the lists behind one more row
-pub touches-more : (parts : Parts) (row part : ℕ) (holders : List (ℕ × ℕ)) (lists lists' : List (List (ℕ × ℕ))) → IsValid parts → row < target_count parts → part ≡ greatest_part_of parts (target_at parts row) → holders ≡ holders_of parts.amounts (target_at parts row).feature → lists ≡ list_below (unit_count parts) (touches_upto parts row) → lists' ≡ filled lists (touching row part holders) → lists' ≡ list_below (unit_count parts) (touches_upto parts (row + 1))
+pub touches-more : (parts : Parts) (row part : ℕ) (holders : List (ℕ × ℕ)) (lists lists' : List (List Touch)) → IsValid parts → row < target_count parts → part ≡ greatest_part_of parts (target_at parts row) → holders ≡ holders_of parts.amounts (target_at parts row).feature → lists ≡ list_below (unit_count parts) (touches_upto parts row) → lists' ≡ filled lists (touching row part holders) → lists' ≡ list_below (unit_count parts) (touches_upto parts (row + 1))
 touches-more parts row part holders lists lists' valid h e f now more =
-    let es : List (ℕ × (ℕ × ℕ)) = touching row part holders in
-    let len : length lists ≡ unit_count parts = ap length now ∙ length-list_below {X = List (ℕ × ℕ)} (unit_count parts) (touches_upto parts row) in
+    let es : List (ℕ × Touch) = touching row part holders in
+    let len : length lists ≡ unit_count parts = ap length now ∙ length-list_below {X = List Touch} (unit_count parts) (touches_upto parts row) in
     more ∙ ap (λ n. list_below n (λ k. get_or lists k [] ++ values_at k es)) len
-    ∙ list_below-same {X = List (ℕ × ℕ)} (unit_count parts) (λ k. get_or lists k [] ++ values_at k es) (touches_upto parts (row + 1)) []
-    (λ k i. ap (λ l. l ++ values_at k es) (ap (λ ls. get_or ls k []) now ∙ get_or-list_below {X = List (ℕ × ℕ)} (unit_count parts) k (touches_upto parts row) [] i)
+    ∙ list_below-same {X = List Touch} (unit_count parts) (λ k. get_or lists k [] ++ values_at k es) (touches_upto parts (row + 1)) []
+    (λ k i. ap (λ l. l ++ values_at k es) (ap (λ ls. get_or ls k []) now ∙ get_or-list_below {X = List Touch} (unit_count parts) k (touches_upto parts row) [] i)
     ∙ ap (λ vs. touches_upto parts row k ++ vs) (ap (λ hs. values_at k (touching row part hs)) f ∙ values_at-touching parts row k part valid (zone-inside parts row valid h) e)
     ∙ sym (touches_upto-more parts row k))
 
 pub touches-none : (parts : Parts) → empty_lists (unit_count parts) ≡ list_below (unit_count parts) (touches_upto parts 0)
-touches-none parts = list_below-same {X = List (ℕ × ℕ)} (unit_count parts) (λ k. []) (touches_upto parts 0) [] (λ k i. refl)
+touches-none parts = list_below-same {X = List Touch} (unit_count parts) (λ k. []) (touches_upto parts 0) [] (λ k i. refl)
 
-pub touches-done : (parts : Parts) (n : ℕ) (lists : List (List (ℕ × ℕ))) → n ≡ target_count parts → lists ≡ list_below (unit_count parts) (touches_upto parts n) → lists ≡ list_below (unit_count parts) (touches_of parts)
+pub touches-done : (parts : Parts) (n : ℕ) (lists : List (List Touch)) → n ≡ target_count parts → lists ≡ list_below (unit_count parts) (touches_upto parts n) → lists ≡ list_below (unit_count parts) (touches_of parts)
 unfolding touches_of touched_rows
 touches-done parts n lists e now = now ∙ ap (λ m. list_below (unit_count parts) (touches_upto parts m)) e
 
@@ -440,8 +442,8 @@ touching-any a c part k [] = refl
 touching-any a c part k (h ∷ hs) =
     let more : length (values_at k (touching a part hs)) ≡ length (values_at k (touching c part hs)) = touching-any a c part k hs in
     let rest : List (ℕ × ℕ) = filter (λ (holder : ℕ × ℕ). nat_le 500000 (holder.1 * part)) hs in
-    elim (nat_le 500000 (h.1 * part)) as (λ b. length (values_at {X = ℕ × ℕ} k (map (λ (holder : ℕ × ℕ). (holder.0, (a, holder.1))) (cond b (h ∷ rest) rest))) ≡ length (values_at {X = ℕ × ℕ} k (map (λ (holder : ℕ × ℕ). (holder.0, (c, holder.1))) (cond b (h ∷ rest) rest)))) [
-      | true ↦ elim (h.0 == k) as (λ b. length (cond b ((a, h.1) ∷ values_at k (touching a part hs)) (values_at k (touching a part hs))) ≡ length (cond b ((c, h.1) ∷ values_at k (touching c part hs)) (values_at k (touching c part hs)))) [ true ↦ ap (λ n. suc n) more | false ↦ more ]
+    elim (nat_le 500000 (h.1 * part)) as (λ b. length (values_at {X = Touch} k (map (λ (holder : ℕ × ℕ). (holder.0, as_touch a holder.1)) (cond b (h ∷ rest) rest))) ≡ length (values_at {X = Touch} k (map (λ (holder : ℕ × ℕ). (holder.0, as_touch c holder.1)) (cond b (h ∷ rest) rest)))) [
+      | true ↦ elim (h.0 == k) as (λ b. length (cond b (as_touch a h.1 ∷ values_at k (touching a part hs)) (values_at k (touching a part hs))) ≡ length (cond b (as_touch c h.1 ∷ values_at k (touching c part hs)) (values_at k (touching c part hs)))) [ true ↦ ap (λ n. suc n) more | false ↦ more ]
       | false ↦ more
     ]
 
@@ -449,14 +451,14 @@ touching-any a c part k (h ∷ hs) =
 pub touch_counts-more : (parts : Parts) (row part : ℕ) (holders : List (ℕ × ℕ)) (counts counts' : List ℕ) → IsValid parts → row < target_count parts → part ≡ greatest_part_of parts (target_at parts row) → holders ≡ holders_of parts.amounts (target_at parts row).feature
     → counts ≡ map length (list_below (unit_count parts) (touches_upto parts row)) → counts' ≡ counts_with counts (touching 0 part holders) → counts' ≡ map length (list_below (unit_count parts) (touches_upto parts (row + 1)))
 touch_counts-more parts row part holders counts counts' valid h e f now more =
-    let lists : List (List (ℕ × ℕ)) = list_below (unit_count parts) (touches_upto parts row) in
+    let lists : List (List Touch) = list_below (unit_count parts) (touches_upto parts row) in
     more
     ∙ list_below-same (length counts) (λ k. get_or counts k 0 + length (values_at k (touching 0 part holders))) (λ k. get_or counts k 0 + length (values_at k (touching row part holders))) 0 (λ k i. ap (λ n. get_or counts k 0 + n) (touching-any 0 row part k holders))
     ∙ ap (λ cs. counts_with cs (touching row part holders)) now ∙ counted-lengths lists (touching row part holders)
     ∙ ap (map length) (touches-more parts row part holders lists (filled lists (touching row part holders)) valid h e f refl refl)
 
 pub touch_counts-start : (parts : Parts) (n : ℕ) (counts : List ℕ) → n ≡ unit_count parts → counts ≡ replicate n 0 → counts ≡ map length (list_below (unit_count parts) (touches_upto parts 0))
-touch_counts-start parts n counts e is = is ∙ ap (λ m. replicate m 0) e ∙ no_counts (ℕ × ℕ) (unit_count parts) ∙ ap (map length) (touches-none parts)
+touch_counts-start parts n counts e is = is ∙ ap (λ m. replicate m 0) e ∙ no_counts Touch (unit_count parts) ∙ ap (map length) (touches-none parts)
 
 pub touch_counts-done : (parts : Parts) (n : ℕ) (counts : List ℕ) → n ≡ target_count parts → counts ≡ map length (list_below (unit_count parts) (touches_upto parts n)) → counts ≡ map length (list_below (unit_count parts) (touches_of parts))
 touch_counts-done parts n counts e now = now ∙ ap (map length) (touches-done parts n (list_below (unit_count parts) (touches_upto parts n)) e refl)
@@ -465,7 +467,7 @@ touches_upto-le : (parts : Parts) (m row unit : ℕ) → length (touches_upto pa
 touches_upto-le parts zero row unit = omega (arith, ap (λ n. length (touches_upto parts n unit)) (let e : row + 0 ≡ row = omega arith in e))
 touches_upto-le parts (suc m) row unit =
     let e : row + suc m ≡ row + m + 1 = omega arith in
-    omega (arith, touches_upto-le parts m row unit, ap (λ n. length (touches_upto parts n unit)) e, ap length (touches_upto-more parts (row + m) unit), length-append (touches_upto parts (row + m) unit) (cond (is_touched parts unit (row + m)) ((row + m, amount_for parts (row + m) unit) ∷ []) []))
+    omega (arith, touches_upto-le parts m row unit, ap (λ n. length (touches_upto parts n unit)) e, ap length (touches_upto-more parts (row + m) unit), length-append (touches_upto parts (row + m) unit) (cond (is_touched parts unit (row + m)) (as_touch (row + m) (amount_for parts (row + m) unit) ∷ []) []))
 
 touches_of-most : (parts : Parts) (row unit : ℕ) → row ≤ target_count parts → length (touches_upto parts row unit) ≤ length (touches_of parts unit)
 unfolding touches_of touched_rows
@@ -474,46 +476,46 @@ touches_of-most parts row unit h =
     omega (arith, touches_upto-le parts (target_count parts - row) row unit, ap (λ n. length (touches_upto parts n unit)) e)
 
 -- lists of touched rows as they are filled: those of the rows so far, and the room of all
-pub record AreTouches (parts : Parts) (row : ℕ) (filling : Filling (ℕ × ℕ)) : Type 0 where
+pub record AreTouches (parts : Parts) (row : ℕ) (filling : Filling Touch) : Type 0 where
   pub lists : filling.lists ≡ list_below (unit_count parts) (touches_upto parts row)
   pub room : filling.room ≡ map length (list_below (unit_count parts) (touches_of parts))
 
-pub touches-start : (parts : Parts) (counts : List ℕ) (filling : Filling (ℕ × ℕ)) → counts ≡ map length (list_below (unit_count parts) (touches_of parts)) → filling ≡ record { lists = empty_lists (length counts); room = counts } → AreTouches parts 0 filling
+pub touches-start : (parts : Parts) (counts : List ℕ) (filling : Filling Touch) → counts ≡ map length (list_below (unit_count parts) (touches_of parts)) → filling ≡ record { lists = empty_lists (length counts); room = counts } → AreTouches parts 0 filling
 touches-start parts counts filling e is =
     let n : ℕ = unit_count parts in
     let len : length counts ≡ n = ap length e ∙ length-map (list_below n (touches_of parts)) length ∙ length-list_below n (touches_of parts) in
     record {
-      lists = ap (λ (v : Filling (ℕ × ℕ)). v.lists) is ∙ ap (λ m. empty_lists {X = ℕ × ℕ} m) len ∙ touches-none parts;
-      room = ap (λ (v : Filling (ℕ × ℕ)). v.room) is ∙ e;
+      lists = ap (λ (v : Filling Touch). v.lists) is ∙ ap (λ m. empty_lists {X = Touch} m) len ∙ touches-none parts;
+      room = ap (λ (v : Filling Touch). v.room) is ∙ e;
     }
 
-pub length-touches : (parts : Parts) (row : ℕ) (filling : Filling (ℕ × ℕ)) → AreTouches parts row filling → length filling.lists ≡ unit_count parts
+pub length-touches : (parts : Parts) (row : ℕ) (filling : Filling Touch) → AreTouches parts row filling → length filling.lists ≡ unit_count parts
 length-touches parts row filling are = ap length are.lists ∙ length-list_below (unit_count parts) (touches_upto parts row)
 
-pub touches-room : (parts : Parts) (row part : ℕ) (holders : List (ℕ × ℕ)) (filling : Filling (ℕ × ℕ)) → IsValid parts → row < target_count parts → part ≡ greatest_part_of parts (target_at parts row) → holders ≡ holders_of parts.amounts (target_at parts row).feature → AreTouches parts row filling → HasRoom filling (touching row part holders)
+pub touches-room : (parts : Parts) (row part : ℕ) (holders : List (ℕ × ℕ)) (filling : Filling Touch) → IsValid parts → row < target_count parts → part ≡ greatest_part_of parts (target_at parts row) → holders ≡ holders_of parts.amounts (target_at parts row).feature → AreTouches parts row filling → HasRoom filling (touching row part holders)
 touches-room parts row part holders filling valid h e f are k inside =
     let near : k < unit_count parts = omega (arith, length-touches parts row filling are) in
-    let so_far : length (get_or filling.lists k []) ≡ length (touches_upto parts row k) = ap (λ ls. length (get_or ls k [])) are.lists ∙ ap length (get_or-list_below {X = List (ℕ × ℕ)} (unit_count parts) k (touches_upto parts row) [] near) in
-    let more : values_at k (touching row part holders) ≡ cond (is_touched parts k row) ((row, amount_for parts row k) ∷ []) [] = ap (λ hs. values_at k (touching row part hs)) f ∙ values_at-touching parts row k part valid (zone-inside parts row valid h) e in
+    let so_far : length (get_or filling.lists k []) ≡ length (touches_upto parts row k) = ap (λ ls. length (get_or ls k [])) are.lists ∙ ap length (get_or-list_below {X = List Touch} (unit_count parts) k (touches_upto parts row) [] near) in
+    let more : values_at k (touching row part holders) ≡ cond (is_touched parts k row) (as_touch row (amount_for parts row k) ∷ []) [] = ap (λ hs. values_at k (touching row part hs)) f ∙ values_at-touching parts row k part valid (zone-inside parts row valid h) e in
     let next : length (touches_upto parts (row + 1) k) ≡ length (touches_upto parts row k) + length (values_at k (touching row part holders)) =
     ap length (touches_upto-more parts row k ∙ ap (λ vs. touches_upto parts row k ++ vs) (sym more)) ∙ length-append (touches_upto parts row k) (values_at k (touching row part holders)) in
     let room : get_or filling.room k 0 ≡ length (touches_of parts k) =
-    ap (λ rs. get_or rs k 0) are.room ∙ get_or-map length (list_below (unit_count parts) (touches_of parts)) k [] 0 (omega (arith, length-list_below (unit_count parts) (touches_of parts))) ∙ ap length (get_or-list_below {X = List (ℕ × ℕ)} (unit_count parts) k (touches_of parts) [] near) in
+    ap (λ rs. get_or rs k 0) are.room ∙ get_or-map length (list_below (unit_count parts) (touches_of parts)) k [] 0 (omega (arith, length-list_below (unit_count parts) (touches_of parts))) ∙ ap length (get_or-list_below {X = List Touch} (unit_count parts) k (touches_of parts) [] near) in
     omega (arith, touches_of-most parts (row + 1) k (omega arith))
 
-pub touches-next : (parts : Parts) (row part : ℕ) (holders : List (ℕ × ℕ)) (filling one : Filling (ℕ × ℕ)) → IsValid parts → row < target_count parts → part ≡ greatest_part_of parts (target_at parts row) → holders ≡ holders_of parts.amounts (target_at parts row).feature → AreTouches parts row filling
+pub touches-next : (parts : Parts) (row part : ℕ) (holders : List (ℕ × ℕ)) (filling one : Filling Touch) → IsValid parts → row < target_count parts → part ≡ greatest_part_of parts (target_at parts row) → holders ≡ holders_of parts.amounts (target_at parts row).feature → AreTouches parts row filling
     → one ≡ record filling { lists = filled filling.lists (touching row part holders) } → AreTouches parts (row + 1) one
 touches-next parts row part holders filling one valid h e f are is = record {
-  lists = touches-more parts row part holders filling.lists one.lists valid h e f are.lists (ap (λ (v : Filling (ℕ × ℕ)). v.lists) is);
-  room = ap (λ (v : Filling (ℕ × ℕ)). v.room) is ∙ are.room;
+  lists = touches-more parts row part holders filling.lists one.lists valid h e f are.lists (ap (λ (v : Filling Touch). v.lists) is);
+  room = ap (λ (v : Filling Touch). v.room) is ∙ are.room;
 }
 
-pub touches-whole : (parts : Parts) (n : ℕ) (filling : Filling (ℕ × ℕ)) → n ≡ target_count parts → AreTouches parts n filling → filling.lists ≡ list_below (unit_count parts) (touches_of parts)
+pub touches-whole : (parts : Parts) (n : ℕ) (filling : Filling Touch) → n ≡ target_count parts → AreTouches parts n filling → filling.lists ≡ list_below (unit_count parts) (touches_of parts)
 touches-whole parts n filling e are = touches-done parts n filling.lists e are.lists
 
 -- what stands behind the next holder
 pub touching-split : (row part : ℕ) (holders : List (ℕ × ℕ)) (i : ℕ) → i < length holders → touching row part holders ≡ touching row part (take (i + 1) holders) ++ touching row part (drop (i + 1) holders)
 touching-split row part holders i h =
-    let entry : ℕ × ℕ → ℕ × (ℕ × ℕ) = λ (holder : ℕ × ℕ). (holder.0, (row, holder.1)) in
+    let entry : ℕ × ℕ → ℕ × Touch = λ (holder : ℕ × ℕ). (holder.0, as_touch row holder.1) in
     let test : ℕ × ℕ → Bool = λ (holder : ℕ × ℕ). nat_le 500000 (holder.1 * part) in
     ap (touching row part) (sym (take-append-drop (i + 1) holders)) ∙ ap (map entry) (filter-append test (take (i + 1) holders) (drop (i + 1) holders)) ∙ map-append entry (filter test (take (i + 1) holders)) (filter test (drop (i + 1) holders))

@@ -1,7 +1,5 @@
 pub mod AmountLaws
 pub mod BuildLaws
-pub mod Checked
-pub mod ExampleLaws
 pub mod FillingLaws
 pub mod GroupLaws
 pub mod LimitLaws

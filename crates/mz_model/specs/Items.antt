@@ -1,5 +1,6 @@
 -- The items of a unit: what a move of the unit reads.
 use Rattle.std.specs.Prelude.{ℕ, List, ◌∷◌, ◌++◌, map}
+use Rattle.mz_model.specs.declared.neighbour.Neighbour.{Neighbour}
 use Rattle.mz_model.specs.declared.parts.Parts.{Parts}
 use Rattle.mz_model.specs.Boundary.{neighbours_of}
 use Rattle.mz_model.specs.Targets.{touched_rows}
@@ -11,4 +12,4 @@ pub data Item : Type 0 where
 
 -- the unit, its neighbours, and the target rows for which it gains in some zone
 unfoldable pub items_of : Parts → ℕ → List Item
-items_of parts unit = unit_item unit ∷ (map (λ (neighbour : ℕ × ℕ). unit_item neighbour.0) (neighbours_of parts unit) ++ map row_item (touched_rows parts unit))
+items_of parts unit = unit_item unit ∷ (map (λ (neighbour : Neighbour). unit_item neighbour.unit) (neighbours_of parts unit) ++ map row_item (touched_rows parts unit))

@@ -1,7 +1,6 @@
 pub mod Amounts
 pub mod Boundary
 pub mod Built
-pub mod Examples
 pub mod Groups
 pub mod Items
 pub mod Move

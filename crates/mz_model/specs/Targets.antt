@@ -2,6 +2,7 @@
 use Rattle.std.specs.Prelude.{ℕ, ◌-◌, ◌*◌, ◌≤◌, Bool, cond, List, map, Option, None, Some, slice_index, ◌==◌, nat_le, nat_lt}
 use Rattle.mz_num.specs.Round.{round}
 use Rattle.mz_model.specs.declared.parts.Parts.{Parts}
+use Rattle.mz_model.specs.declared.touch.Touch.{Touch}
 use Rattle.mz_model.specs.Amounts.{amount_of}
 use Rattle.mz_model.specs.Parts.{unit_count, zone_count, target_count, fraction_at, target_at}
 use Rattle.mz_num.specs.Places.{sum_below, greatest_below, places_below}
@@ -52,6 +53,14 @@ is_touched parts unit row = nat_lt 0 (greatest_below (zone_count parts) (gain_of
 unfoldable pub touched_rows : Parts → ℕ → List ℕ
 touched_rows parts unit = places_below (target_count parts) (is_touched parts unit)
 
+-- a target row with an amount of its feature
+abbrev pub as_touch : ℕ → ℕ → Touch
+as_touch row amount = record { row = row; amount = amount }
+
+-- what stands for one past the last
+abbrev pub no_touch : Touch
+no_touch = as_touch 0 0
+
 -- these rows, each with the unit's amount of its feature
-unfoldable pub touches_of : Parts → ℕ → List (ℕ × ℕ)
-touches_of parts unit = map (λ row. (row, amount_for parts row unit)) (touched_rows parts unit)
+unfoldable pub touches_of : Parts → ℕ → List Touch
+touches_of parts unit = map (λ row. as_touch row (amount_for parts row unit)) (touched_rows parts unit)

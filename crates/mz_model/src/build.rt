@@ -16,8 +16,10 @@ use crate::count::count_one;
 use crate::filling::Filling;
 use crate::groups::Groups;
 use crate::holders::holders_by_feature;
+use crate::neighbour::Neighbour;
 use crate::parts::{Parts, Target};
 use crate::problem::Problem;
+use crate::touch::Touch;
 use mz_num::NoMemory;
 use std::alloc::Global;
 
@@ -113,16 +115,18 @@ fn counts_of_free(
 }
 
 /// The neighbours of each unit, with the lengths between.
-fn neighbours_by_unit(alloc: Global, parts: &Parts) -> Result<Groups<(u32, u64)>, NoMemory>
+fn neighbours_by_unit(alloc: Global, parts: &Parts) -> Result<Groups<Neighbour>, NoMemory>
     requires { IsValid parts.now }
     ensures { IfOk result (λ neighbours. neighbours ≡ list_below (unit_count parts.now) (neighbours_of parts.now)) }
 {
     let counts = neighbour_counts(alloc, parts)?;
-    let mut lists = Filling::new(alloc, counts.as_slice(), (0, 0))?;
+    let blank = Neighbour { unit: 0, length: 0 };
+    let mut lists = Filling::new(alloc, counts.as_slice(), blank)?;
     let edges = parts.edges.as_slice();
-    for (first, second, len) in edges {
-        lists.push(*first as usize, (*second, *len));
-        lists.push(*second as usize, (*first, *len));
+    for (first, second, length) in edges {
+        let length = *length;
+        lists.push(*first as usize, Neighbour { unit: *second, length });
+        lists.push(*second as usize, Neighbour { unit: *first, length });
     }
     Ok(lists.full())
 }
@@ -146,13 +150,14 @@ fn touches_by_unit(
     alloc: Global,
     parts: &Parts,
     holders: &Groups<(u32, u64)>,
-) -> Result<Groups<(u32, u64)>, NoMemory>
+) -> Result<Groups<Touch>, NoMemory>
     requires valid { IsValid parts.now }
     requires holders { holders.now ≡ list_below (feature_count parts.now) (holders_of parts.now.amounts) }
     ensures { IfOk result (λ touches. touches ≡ list_below (unit_count parts.now) (touches_of parts.now)) }
 {
     let counts = touch_counts(alloc, parts, holders)?;
-    let mut lists = Filling::new(alloc, counts.as_slice(), (0, 0))?;
+    let blank = Touch { row: 0, amount: 0 };
+    let mut lists = Filling::new(alloc, counts.as_slice(), blank)?;
     for row in 0..parts.targets.len() as u32 {
         let target = &parts.targets.as_slice()[row as usize];
         let part = greatest_part(parts, target);
@@ -200,14 +205,14 @@ fn greatest_part(parts: &Parts, target: &Target) -> u64
 }
 
 /// Adds the row to the list of each unit whose amount rounds to a gain, with the amount.
-fn add_touches(row: u32, part: u64, holders: &[(u32, u64)], lists: &mut Filling<(u32, u64)>)
+fn add_touches(row: u32, part: u64, holders: &[(u32, u64)], lists: &mut Filling<Touch>)
     requires inside { All (λ holder. holder.0 < length lists.old.lists) holders.now }
     requires room { HasRoom lists.old (touching row part holders.now) }
     ensures { lists.new ≡ record lists.old { lists = filled lists.old.lists (touching row part holders.now) } }
 {
     for (unit, amount) in holders {
         if *amount as u128 * part as u128 >= 500_000 {
-            lists.push(*unit as usize, (row, *amount));
+            lists.push(*unit as usize, Touch { row, amount: *amount });
         }
     }
 }

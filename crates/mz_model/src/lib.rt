@@ -9,20 +9,19 @@ mod count;
 mod filling;
 mod groups;
 mod holders;
+mod neighbour;
 mod parts;
 mod plan;
 mod problem;
 mod product;
 mod score;
-mod scoring;
+mod touch;
 
 pub use groups::Groups;
 pub use holders::holders_by_feature;
+pub use neighbour::Neighbour;
 pub use parts::{Parts, Target};
 pub use plan::{Plan, PlanFault};
 pub use problem::Problem;
-pub use score::Score;
-pub use scoring::{evaluate, held, is_met, short};
-
-#[cfg(test)]
-mod tests;
+pub use score::{Score, evaluate, held, is_met, short};
+pub use touch::Touch;

@@ -3,7 +3,7 @@ ghost use Rattle.std.specs.Prelude.{◌≡◌, ◌+◌, ◌*◌, ◌%◌, ◌<�
 ghost use Rattle.std.specs.Prelude.{◌==◌};
 ghost use Rattle.std.specs.List.{All, position_or_len};
 ghost use Rattle.mz_model.specs.Amounts.{holders_of};
-ghost use Rattle.mz_model.specs.Boundary.{IsLength, edge_term_of, neighbours_of};
+ghost use Rattle.mz_model.specs.Boundary.{IsLength, as_neighbour, edge_term_of, neighbours_of};
 ghost use Rattle.mz_model.specs.Parts.{unit_count, zone_count, feature_count, target_count, cost_at, fraction_at, outer_at, rate_at, target_at};
 ghost use Rattle.mz_model.specs.Targets.{gain_from, gain_of, touched_rows, touches_of};
 ghost use Rattle.mz_model.specs.Scores.{penalty_term_of};
@@ -12,8 +12,10 @@ ghost use Rattle.mz_model.specs.Valid.{IsPair, IsValid};
 ghost use Rattle.mz_model.specs.Zones.{allowed_zones, is_allowed, free_units, counts_of, step_of};
 
 use crate::groups::Groups;
+use crate::neighbour::Neighbour;
 use crate::parts::{Parts, Target};
 use crate::product::{by_millionths, part_of};
+use crate::touch::Touch;
 use std::marker::Model;
 
 /// A problem: units that each get one zone, what that costs, and what is asked of a plan.
@@ -25,11 +27,11 @@ pub struct Problem {
     pub(crate) free: Vec<u32>,
     pub(crate) counts: Vec<u8>,
     /// The neighbours of each unit, with the lengths between.
-    pub(crate) neighbours: Groups<(u32, u64)>,
+    pub(crate) neighbours: Groups<Neighbour>,
     /// The units that hold each feature, with their amounts.
     pub(crate) holders: Groups<(u32, u64)>,
     /// The target rows for which each unit gains in some zone, with its amount of their feature.
-    pub(crate) touches: Groups<(u32, u64)>,
+    pub(crate) touches: Groups<Touch>,
 }
 
 impl Model for Problem {
@@ -197,11 +199,11 @@ impl Problem {
 
     /// The neighbours of a unit, each with the length between the two in ten-thousandths.
     #[inline]
-    pub fn neighbours(&self, unit: u32) -> &[(u32, u64)]
+    pub fn neighbours(&self, unit: u32) -> &[Neighbour]
         requires { unit < unit_count self.now }
-        ensures pairs { result.now ≡ neighbours_of self.now unit }
-        ensures units { All (λ pair. pair.0 < unit_count self.now) result.now }
-        ensures lengths { All (λ pair. IsLength self.now pair.1) result.now }
+        ensures neighbours { result.now ≡ neighbours_of self.now unit }
+        ensures units { All (λ neighbour. neighbour.unit < unit_count self.now) result.now }
+        ensures lengths { All (λ neighbour. IsLength self.now neighbour.length) result.now }
         ensures small { length result.now ≤ 2000000 }
         ensures valid { IsValid self.now }
     {
@@ -213,11 +215,12 @@ impl Problem {
     pub fn neighbour(&self, unit: u32, i: u32) -> (u32, u64)
         requires unit { unit < unit_count self.now }
         requires place { i < length (neighbours_of self.now unit) }
-        ensures pair { slice_get (neighbours_of self.now unit) i ≡ Some result }
+        ensures pair { slice_get (neighbours_of self.now unit) i ≡ Some (as_neighbour result.0 result.1) }
         ensures in_range { result.0 < unit_count self.now }
         ensures length { IsLength self.now result.1 }
     {
-        self.neighbours(unit)[i as usize]
+        let neighbour = self.neighbours(unit)[i as usize];
+        (neighbour.unit, neighbour.length)
     }
 
     /// The length of a unit's boundary that no unit of the problem shares.
@@ -275,7 +278,7 @@ impl Problem {
         ensures gain { result ≡ gain_of self.now t unit zone }
         ensures small { result ≤ 10 ^ 18 }
     {
-        match self.touches(unit).binary_search_by_key(&t, |touch| touch.0) {
+        match self.touches(unit).binary_search_by_key(&t, |touch| touch.row) {
             Ok(i) => self.touched_gain(unit, i as u32, zone),
             Err(_) => 0,
         }
@@ -300,15 +303,15 @@ impl Problem {
         ensures row { result ≡ slice_index (touched_rows self.now unit) i }
         ensures in_range { result < target_count self.now }
     {
-        self.touches(unit)[i as usize].0
+        self.touches(unit)[i as usize].row
     }
 
     /// The target rows for which a unit gains in some zone, each with the unit's amount of its feature.
     #[inline]
-    pub fn touches(&self, unit: u32) -> &[(u32, u64)]
+    pub fn touches(&self, unit: u32) -> &[Touch]
         requires { unit < unit_count self.now }
         ensures touches { result.now ≡ touches_of self.now unit }
-        ensures rows { All (λ touch. touch.0 < target_count self.now) result.now }
+        ensures rows { All (λ touch. touch.row < target_count self.now) result.now }
         ensures paired { length (touched_rows self.now unit) ≡ length result.now }
         ensures small { length result.now ≤ target_count self.now }
         ensures valid { IsValid self.now }
@@ -325,8 +328,8 @@ impl Problem {
         ensures gain { result ≡ gain_of self.now (slice_index (touched_rows self.now unit) i) unit zone }
         ensures small { result ≤ 10 ^ 18 }
     {
-        let (row, amount) = self.touches(unit)[i as usize];
-        self.gain_from(row, amount, zone)
+        let touch = self.touches(unit)[i as usize];
+        self.gain_from(touch.row, touch.amount, zone)
     }
 
     /// The part of a feature's amounts that counts in a zone, in millionths.

@@ -15,19 +15,19 @@ pub edge_term-old_term-requires-clause-first : goal.edge_term-old_term-requires-
 edge_term-old_term-requires-clause-first c = is_allowed-in_range c.args.problem.now c.args.reading.now.unit c.args.reading.now.zone c.neighbours-neighbours.ensures.valid c.requires.well_formed.unit c.requires.well_formed.zone
 
 pub edge_term-old_term-requires-clause-second : goal.edge_term-old_term-requires-clause-second
-edge_term-old_term-requires-clause-second c = neighbour-in_range c.args.problem.now c.args.reading.now c.neighbours-neighbours.result.now c.as_slice-zones.result.now c.loop-i.i c.neighbours-neighbours.ensures.valid c.requires.well_formed c.neighbours-neighbours.ensures.pairs c.as_slice-zones.ensures c.loop-i-test.true
+edge_term-old_term-requires-clause-second c = neighbour-in_range c.args.problem.now c.args.reading.now c.neighbours-neighbours.result.now c.as_slice-zones.result.now c.loop-i.i c.neighbours-neighbours.ensures.valid c.requires.well_formed c.neighbours-neighbours.ensures.neighbours c.as_slice-zones.ensures c.loop-i-test.true
 
 pub edge_term-new_term-requires-clause-second : goal.edge_term-new_term-requires-clause-second
-edge_term-new_term-requires-clause-second c = neighbour-in_range c.args.problem.now c.args.reading.now c.neighbours-neighbours.result.now c.as_slice-zones.result.now c.loop-i.i c.neighbours-neighbours.ensures.valid c.requires.well_formed c.neighbours-neighbours.ensures.pairs c.as_slice-zones.ensures c.loop-i-test.true
+edge_term-new_term-requires-clause-second c = neighbour-in_range c.args.problem.now c.args.reading.now c.neighbours-neighbours.result.now c.as_slice-zones.result.now c.loop-i.i c.neighbours-neighbours.ensures.valid c.requires.well_formed c.neighbours-neighbours.ensures.neighbours c.as_slice-zones.ensures c.loop-i-test.true
 
 pub rate-requires-clause-first : goal.rate-requires-clause-first
 rate-requires-clause-first c = is_allowed-in_range c.args.problem.now c.args.reading.now.unit c.args.reading.now.zone c.neighbours-neighbours.ensures.valid c.requires.well_formed.unit c.requires.well_formed.zone
 
 pub rate-requires-clause-second : goal.rate-requires-clause-second
-rate-requires-clause-second c = neighbour-in_range c.args.problem.now c.args.reading.now c.neighbours-neighbours.result.now c.as_slice-zones.result.now c.loop-i.i c.neighbours-neighbours.ensures.valid c.requires.well_formed c.neighbours-neighbours.ensures.pairs c.as_slice-zones.ensures c.loop-i-test.true
+rate-requires-clause-second c = neighbour-in_range c.args.problem.now c.args.reading.now c.neighbours-neighbours.result.now c.as_slice-zones.result.now c.loop-i.i c.neighbours-neighbours.ensures.valid c.requires.well_formed c.neighbours-neighbours.ensures.neighbours c.as_slice-zones.ensures c.loop-i-test.true
 
 pub rate-requires-in-loop-i-clause-second : goal.rate-requires-in-loop-i-clause-second
-rate-requires-in-loop-i-clause-second c = neighbour-in_range c.args.problem.now c.args.reading.now c.neighbours-neighbours.result.now c.as_slice-zones.result.now c.loop-i.i c.neighbours-neighbours.ensures.valid c.requires.well_formed c.neighbours-neighbours.ensures.pairs c.as_slice-zones.ensures c.loop-i-test.true
+rate-requires-in-loop-i-clause-second c = neighbour-in_range c.args.problem.now c.args.reading.now c.neighbours-neighbours.result.now c.as_slice-zones.result.now c.loop-i.i c.neighbours-neighbours.ensures.valid c.requires.well_formed c.neighbours-neighbours.ensures.neighbours c.as_slice-zones.ensures c.loop-i-test.true
 
 pub loop-i-preserved : goal.loop-i-preserved
 loop-i-preserved c =
@@ -35,8 +35,8 @@ loop-i-preserved c =
     let more_new = sum_below-more c.loop-i.i (neighbour_term c.args.problem.now c.args.reading.now c.args.zone) in
     elim c.if-rate.branch [
       | then-rate w ↦ (
-          let old : w.edge_term-old_term.result ≡ neighbour_term c.args.problem.now c.args.reading.now c.args.reading.now.zone c.loop-i.i = w.edge_term-old_term.ensures.term ∙ neighbour_term-is c.args.problem.now c.args.reading.now c.neighbours-neighbours.result.now c.as_slice-zones.result.now c.args.reading.now.zone c.loop-i.i c.neighbours-neighbours.ensures.pairs c.as_slice-zones.ensures in
-          let new : w.edge_term-new_term.result ≡ neighbour_term c.args.problem.now c.args.reading.now c.args.zone c.loop-i.i = w.edge_term-new_term.ensures.term ∙ neighbour_term-is c.args.problem.now c.args.reading.now c.neighbours-neighbours.result.now c.as_slice-zones.result.now c.args.zone c.loop-i.i c.neighbours-neighbours.ensures.pairs c.as_slice-zones.ensures in
+          let old : w.edge_term-old_term.result ≡ neighbour_term c.args.problem.now c.args.reading.now c.args.reading.now.zone c.loop-i.i = w.edge_term-old_term.ensures.term ∙ neighbour_term-is c.args.problem.now c.args.reading.now c.neighbours-neighbours.result.now c.as_slice-zones.result.now c.args.reading.now.zone c.loop-i.i c.neighbours-neighbours.ensures.neighbours c.as_slice-zones.ensures in
+          let new : w.edge_term-new_term.result ≡ neighbour_term c.args.problem.now c.args.reading.now c.args.zone c.loop-i.i = w.edge_term-new_term.ensures.term ∙ neighbour_term-is c.args.problem.now c.args.reading.now c.neighbours-neighbours.result.now c.as_slice-zones.result.now c.args.zone c.loop-i.i c.neighbours-neighbours.ensures.neighbours c.as_slice-zones.ensures in
           record {
             change = omega (arith, c.loop-i.invariant.change, old, new, more_old, more_new, w.before-is, w.after-is);
             before_small = omega (arith, c.loop-i.invariant.before_small, w.edge_term-old_term.ensures.small, w.before-is);
@@ -58,7 +58,7 @@ edge_term-old_outer-requires-clause-first c = is_allowed-in_range c.args.problem
 pub returns-clause-change : goal.returns-clause-change
 returns-clause-change c =
     let fits : SFits w128 c.difference.result = search rules in
-    let all = neighbours-all c.args.problem.now c.args.reading.now c.neighbours-neighbours.result.now c.loop-i.i (omega arith) c.loop-i-test.false c.neighbours-neighbours.ensures.pairs in
+    let all = neighbours-all c.args.problem.now c.args.reading.now c.neighbours-neighbours.result.now c.loop-i.i (omega arith) c.loop-i-test.false c.neighbours-neighbours.ensures.neighbours in
     to_z-of_z w128 c.difference.result fits ∙ c.difference.ensures.value
     ∙ boundary_around-change c.args.problem.now c.args.reading.now c.args.reading.now.zone c.args.zone c.loop-i.i c.loop-i.before c.loop-i.after c.edge_term-old_outer.result c.edge_term-new_outer.result all c.loop-i.invariant.change
     (c.edge_term-old_outer.ensures.term ∙ ap (λ len. edge_term_of c.args.problem.now len c.args.reading.now.zone c.available-available.result) c.outer-outer.ensures.length ∙ ap (edge_term_of c.args.problem.now (outer_at c.args.problem.now c.args.reading.now.unit) c.args.reading.now.zone) c.available-available.ensures.zone)

@@ -1,5 +1,6 @@
 use Rattle.std.proofs.Common.{ap, arith, get_or, length}
 use Rattle.mz_num.proofs.PlaceLaws.{length-list_below}
+use Rattle.mz_model.specs.Targets.{no_touch}
 use Rattle.mz_model.proofs.ZoneLaws.{is_allowed-in_range}
 use Rattle.mz_delta.specs.Move.{moved_total}
 use Rattle.mz_delta.proofs.AroundLaws.{moved_totals-is, moved_totals-more, read_total-le, touch-gain, touches-all}
@@ -33,7 +34,7 @@ push-requires c =
 
 pub loop-i-preserved : goal.loop-i-preserved
 loop-i-preserved c = record {
-  moved = moved_totals-more c.args.problem.now c.args.reading.now c.args.zone c.loop-i.i c.saturating_sub.result c.gain_from-gained.result c.gain_from-lost.result (get_or c.touches-touches.result.now c.loop-i.i (0, 0)) c.loop-i.totals.items c.push.new.self.items c.as_slice-held.result.now c.loop-i.invariant.moved c.as_slice-held.ensures
+  moved = moved_totals-more c.args.problem.now c.args.reading.now c.args.zone c.loop-i.i c.saturating_sub.result c.gain_from-gained.result c.gain_from-lost.result (get_or c.touches-touches.result.now c.loop-i.i no_touch) c.loop-i.totals.items c.push.new.self.items c.as_slice-held.result.now c.loop-i.invariant.moved c.as_slice-held.ensures
       (touch-gain c.args.problem.now c.args.reading.now.unit c.loop-i.i c.args.zone c.touches-touches.result.now c.touches-touches.ensures.valid c.requires.well_formed.unit c.requires.allowed c.touches-touches.ensures.touches c.loop-i-test.true)
       c.gain_from-gained.ensures
       (touch-gain c.args.problem.now c.args.reading.now.unit c.loop-i.i c.args.reading.now.zone c.touches-touches.result.now c.touches-touches.ensures.valid c.requires.well_formed.unit c.requires.well_formed.zone c.touches-touches.ensures.touches c.loop-i-test.true)

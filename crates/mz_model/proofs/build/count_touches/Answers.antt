@@ -2,8 +2,10 @@ use Rattle.std.proofs.Common.{◌≡◌, ℕ, ◌+◌, ◌≤◌, ◌<◌, ◌*�
 use Rattle.std.specs.Prelude.{nat_le}
 use Rattle.std.proofs.lemmas.Bool.{cond-true, cond-false, le-leb, lt-leb}
 use Rattle.std.proofs.lemmas.List.{append-nil}
+use Rattle.mz_model.specs.declared.touch.Touch.{Touch}
 use Rattle.mz_model.specs.Built.{touching}
 use Rattle.mz_model.specs.Groups.{counts_with}
+use Rattle.mz_model.specs.Targets.{as_touch}
 use Rattle.mz_model.proofs.BuildLaws.{counts_with-none, counts_with-push, length-counts_with, touching-more}
 use Rattle.mz_model.proofs.build.count_touches.Goals as goal
 use Rattle.mz_model.proofs.build.count_touches.Goals.{then-amount-part-ge500000+in_ok-count_one, else-amount-part-ge500000}
@@ -13,17 +15,17 @@ enough : (start counts counts' : List ℕ) (part i : ℕ) (holders : List (ℕ �
     → counts' ≡ set counts (get_or holders i (0, 0)).0 (get_or counts (get_or holders i (0, 0)).0 0 + 1) → counts' ≡ counts_with start (touching 0 part (take (i + 1) holders))
 enough start counts counts' part i holders h now much inside pushed =
     let holder : ℕ × ℕ = get_or holders i (0, 0) in
-    counts_with-push start counts counts' (touching 0 part (take i holders)) holder.0 (0, holder.1) now inside pushed
-    ∙ ap (counts_with start) (sym (touching-more 0 part holders i (0, 0) h ∙ ap (λ es. touching 0 part (take i holders) ++ es) (cond-true (nat_le 500000 (holder.1 * part)) ((holder.0, (0, holder.1)) ∷ []) [] (le-leb 500000 (holder.1 * part) much))))
+    counts_with-push start counts counts' (touching 0 part (take i holders)) holder.0 (as_touch 0 holder.1) now inside pushed
+    ∙ ap (counts_with start) (sym (touching-more 0 part holders i (0, 0) h ∙ ap (λ es. touching 0 part (take i holders) ++ es) (cond-true (nat_le 500000 (holder.1 * part)) ((holder.0, as_touch 0 holder.1) ∷ []) [] (le-leb 500000 (holder.1 * part) much))))
 
 -- a holder of too little
 little : (start counts : List ℕ) (part i : ℕ) (holders : List (ℕ × ℕ)) → i < length holders → counts ≡ counts_with start (touching 0 part (take i holders)) → (get_or holders i (0, 0)).1 * part < 500000 → counts ≡ counts_with start (touching 0 part (take (i + 1) holders))
 little start counts part i holders h now few =
     let holder : ℕ × ℕ = get_or holders i (0, 0) in
-    now ∙ ap (counts_with start) (sym (touching-more 0 part holders i (0, 0) h ∙ ap (λ es. touching 0 part (take i holders) ++ es) (cond-false (nat_le 500000 (holder.1 * part)) ((holder.0, (0, holder.1)) ∷ []) [] (lt-leb 500000 (holder.1 * part) few)) ∙ append-nil (touching 0 part (take i holders))))
+    now ∙ ap (counts_with start) (sym (touching-more 0 part holders i (0, 0) h ∙ ap (λ es. touching 0 part (take i holders) ++ es) (cond-false (nat_le 500000 (holder.1 * part)) ((holder.0, as_touch 0 holder.1) ∷ []) [] (lt-leb 500000 (holder.1 * part) few)) ∙ append-nil (touching 0 part (take i holders))))
 
 pub loop-unit-init : goal.loop-unit-init
-loop-unit-init c = counts_with-none (ℕ × ℕ) c.args.counts.now.items
+loop-unit-init c = counts_with-none Touch c.args.counts.now.items
 
 pub count_one-requires : goal.count_one-requires
 count_one-requires c =

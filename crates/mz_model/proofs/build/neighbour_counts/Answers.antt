@@ -2,6 +2,7 @@ use Rattle.std.proofs.Common.{rules, ◌≡◌, ◌∙◌, ap, ℕ, length, take
 use Rattle.std.proofs.Math.ListN.{replicate}
 use Rattle.std.specs.List.{flat_map}
 use Rattle.std.proofs.lemmas.List.{length-replicate, length-set}
+use Rattle.mz_model.specs.declared.neighbour.Neighbour.{Neighbour}
 use Rattle.mz_model.specs.Boundary.{ends_of}
 use Rattle.mz_model.specs.Parts.{unit_count}
 use Rattle.mz_model.specs.Valid.{IsPair}
@@ -11,7 +12,7 @@ use Rattle.mz_model.proofs.build.neighbour_counts.Goals as goal
 pub loop-edge-init : goal.loop-edge-init
 loop-edge-init c =
     let none : c.in_ok-counts.counts.items ≡ replicate (unit_count c.args.parts.now) 0 = c.in_ok-counts.ensures.items_if_clones_equal (search rules) ∙ ap (λ n. replicate n 0) c.len.ensures in
-    counts_with-start (ℕ × ℕ) (unit_count c.args.parts.now) c.in_ok-counts.counts.items none
+    counts_with-start Neighbour (unit_count c.args.parts.now) c.in_ok-counts.counts.items none
 
 pub count_one-requires : goal.count_one-requires
 count_one-requires c =

@@ -1,6 +1,7 @@
-use Rattle.std.proofs.Common.{◌<◌, ◌∙◌, ap, sym, length, ℕ, arith}
+use Rattle.std.proofs.Common.{◌<◌, ◌∙◌, ap, sym, length, arith}
 use Rattle.std.proofs.lemmas.List.Elements.{All-same}
 use Rattle.mz_model.specs.declared.parts.Parts.{Parts}
+use Rattle.mz_model.specs.declared.touch.Touch.{Touch}
 use Rattle.mz_model.specs.Parts.{target_count, unit_count}
 use Rattle.mz_num.specs.Places.{list_below}
 use Rattle.mz_model.specs.Targets.{touches_of}
@@ -16,7 +17,7 @@ returns-clause-touches c = c.at.ensures ∙ (table-row c.self.inside.touches (un
 
 pub returns-clause-rows : goal.returns-clause-rows
 returns-clause-rows c =
-    All-same (λ (touch : ℕ × ℕ). touch.0 < target_count c.args.self.now) _ _ (c.at.ensures ∙ (table-row c.self.inside.touches (unit_count c.args.self.now) (touches_of c.args.self.now) c.args.unit (c.self.invariant.touches_are ∙ ap (λ (p : Parts). list_below (unit_count p) (touches_of p)) c.self.view_is) c.requires).is) (touches_of-in_range c.args.self.now c.args.unit)
+    All-same (λ (touch : Touch). touch.row < target_count c.args.self.now) _ _ (c.at.ensures ∙ (table-row c.self.inside.touches (unit_count c.args.self.now) (touches_of c.args.self.now) c.args.unit (c.self.invariant.touches_are ∙ ap (λ (p : Parts). list_below (unit_count p) (touches_of p)) c.self.view_is) c.requires).is) (touches_of-in_range c.args.self.now c.args.unit)
 
 pub returns-clause-paired : goal.returns-clause-paired
 returns-clause-paired c =

@@ -1,0 +1,4 @@
+mod holders;
+mod moves;
+mod places;
+mod scores;

@@ -1,8 +1,0 @@
-use Rattle.std.proofs.Common.{◌∙◌}
-use Rattle.mz_delta.specs.Examples.{lone_unit}
-use Rattle.mz_model.proofs.ExampleLaws.{same_parts}
-use Rattle.mz_delta.proofs.tests.make_lone_unit.Goals as goal
-
-pub returns : goal.returns
-unfolding lone_unit
-returns c = same_parts lone_unit _ _ _ _ _ _ _ _ _ _ _ _ c.in_ok-unit_ids.ensures c.in_ok-zone_ids.ensures c.in_ok-feature_ids.ensures (c.new-names.ensures ∙ c.new.ensures.items) c.in_ok-allowed.ensures c.in_ok-costs.ensures c.in_ok-rates.ensures c.in_ok-edges.ensures c.in_ok-outer.ensures c.in_ok-targets.ensures c.in_ok-amounts.ensures c.in_ok-fractions.ensures

@@ -1,7 +1,0 @@
-use Rattle.mz_model.specs.Examples.{three_zones}
-use Rattle.mz_model.proofs.ExampleLaws.{same_parts}
-use Rattle.mz_delta.proofs.tests.make_three_zones.Goals as goal
-
-pub returns : goal.returns
-unfolding three_zones
-returns c = same_parts three_zones _ _ _ _ _ _ _ _ _ _ _ _ c.in_ok-unit_ids.ensures c.in_ok-zone_ids.ensures c.in_ok-feature_ids.ensures c.in_ok-names.ensures c.in_ok-allowed.ensures c.in_ok-costs.ensures c.in_ok-rates.ensures c.in_ok-edges.ensures c.in_ok-outer.ensures c.in_ok-targets.ensures c.in_ok-amounts.ensures c.in_ok-fractions.ensures

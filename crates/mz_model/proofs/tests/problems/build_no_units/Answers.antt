@@ -1,7 +1,0 @@
-use Rattle.std.proofs.Common.{subst, sym}
-use Rattle.mz_model.specs.Valid.{IsValid}
-use Rattle.mz_model.proofs.ExampleLaws.{no_units-valid}
-use Rattle.mz_model.proofs.tests.problems.build_no_units.Goals as goal
-
-pub build-requires : goal.build-requires
-build-requires c = subst IsValid (sym c.in_ok-parts.ensures) no_units-valid

@@ -1,7 +1,0 @@
-use Rattle.std.proofs.Common.{subst, sym}
-use Rattle.mz_model.specs.Valid.{IsValid}
-use Rattle.mz_model.proofs.ExampleLaws.{three_zones-valid}
-use Rattle.mz_model.proofs.tests.problems.build_three_zones.Goals as goal
-
-pub build-requires : goal.build-requires
-build-requires c = subst IsValid (sym c.in_ok-parts.ensures) three_zones-valid

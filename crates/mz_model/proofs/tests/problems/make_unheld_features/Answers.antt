@@ -1,7 +1,0 @@
-use Rattle.mz_model.specs.Examples.{three_units, unheld_features}
-use Rattle.mz_model.proofs.ExampleLaws.{same_parts}
-use Rattle.mz_model.proofs.tests.problems.make_unheld_features.Goals as goal
-
-pub returns : goal.returns
-unfolding unheld_features three_units
-returns c = same_parts unheld_features _ _ _ _ _ _ _ _ _ _ _ _ c.in_ok-unit_ids.ensures c.in_ok-zone_ids.ensures c.in_ok-feature_ids.ensures c.in_ok-names.ensures c.in_ok-allowed.ensures c.in_ok-costs.ensures c.in_ok-rates.ensures c.in_ok-edges.ensures c.in_ok-outer.ensures c.in_ok-targets.ensures c.in_ok-amounts.ensures c.in_ok-fractions.ensures

@@ -1,4 +1,0 @@
-mod holders;
-mod places;
-mod problems;
-mod scores;
