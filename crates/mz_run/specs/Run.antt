@@ -12,11 +12,14 @@ seed_of params chance = unwrap_or params.seed chance
 
 -- what the history of a run is played with
 abbrev pub setting_of : Job → ℕ → Setting
-setting_of job run = record { parts = job.problem; cooling = cooling_of job.params; prop = job.params.prop; seed = job.seed; run = run }
+setting_of job run =
+    record { parts = job.problem; cooling = cooling_of job.params; prop = job.params.prop; seed = job.seed; run = run }
 
 -- how many entries a run has: NUMITNS where it anneals and some unit is free, else none
 abbrev pub entries_of_run : Job → ℕ
-entries_of_run job = if (job.params.mode == 1 || job.params.mode == 6) && nat_lt 0 (length (free_units job.problem)) then job.params.iterations else 0
+entries_of_run job =
+    if (job.params.mode == 1 || job.params.mode == 6) && nat_lt 0 (length (free_units job.problem))
+    then job.params.iterations else 0
 
 -- the plan that annealing of these turns ends with
 abbrev pub annealed_plan : Job → ℕ → List ℕ → List ℕ

@@ -3,7 +3,8 @@ use Rattle.std.specs.Prelude.{◌≡◌, Bool, IsTrue, not, ◌==◌, nat_lt, Li
 use Rattle.std.specs.List.{find}
 use Rattle.std.specs.Option.{option_map}
 use Rattle.mz_params.specs.declared.key.Key.{Key}
-use Rattle.mz_params.specs.declared.key.Key.TheVariants.{NumReps, StartTemp, RunMode, SaveRun, SaveSummary, SaveTargMet, SaveSumSoln, SaveTurns}
+use Rattle.mz_params.specs.declared.key.Key.TheVariants.{NumReps, StartTemp, RunMode, SaveRun, SaveSummary}
+use Rattle.mz_params.specs.declared.key.Key.TheVariants.{SaveTargMet, SaveSumSoln, SaveTurns}
 use Rattle.mz_params.specs.declared.params.Params.{Params}
 use Rattle.mz_params.specs.ParamFile.{IsAccepted}
 
@@ -14,7 +15,8 @@ search_tests p = (nat_lt 1 p.reps, NumReps) ∷ (is_none p.start, StartTemp) ∷
 -- output files other than that of the best run
 abbrev pub output_tests : Params → List (Bool × Key)
 output_tests p =
-    (not (p.save_run == 0), SaveRun) ∷ (not (p.save_summary == 0), SaveSummary) ∷ (not (p.save_missing == 0), SaveTargMet)
+    (not (p.save_run == 0), SaveRun) ∷ (not (p.save_summary == 0), SaveSummary)
+    ∷ (not (p.save_missing == 0), SaveTargMet)
     ∷ (not (p.save_summed == 0), SaveSumSoln) ∷ (not (p.save_turns == 0), SaveTurns) ∷ []
 
 -- the key of the first test that holds

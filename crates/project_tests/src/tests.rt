@@ -7,8 +7,9 @@ mod scores;
 mod target_faults;
 
 use mz_model::Problem;
-use mz_project::{InputFault, ReadFault, read_params, read_project};
+use mz_project::{InputFault, ReadFault, What, Which, read_params, read_project};
 use mz_shelf::MemShelf;
+use mz_tables::RowFault;
 use std::alloc::Global;
 use std::test::Fail;
 
@@ -59,4 +60,36 @@ fn fault_of(
         Err(ReadFault::Input(fault)) => Ok(Some(fault)),
         _ => Ok(None),
     }
+}
+
+/// Whether nothing stands against the project.
+fn is_taken(alloc: Global, lines: &str, files: &[(&str, &str)]) -> Result<bool, Fail> {
+    let mut shelf = shelf_of(alloc, lines, files)?;
+    Ok(read(alloc, &mut shelf).is_ok())
+}
+
+/// Whether the project is refused for this fault.
+fn is_refused(
+    alloc: Global,
+    lines: &str,
+    files: &[(&str, &str)],
+    fault: InputFault,
+) -> Result<bool, Fail> {
+    Ok(fault_of(alloc, lines, files)? == Some(fault))
+}
+
+/// Whether the project is refused for a row of this file.
+fn has_bad_row(
+    alloc: Global,
+    lines: &str,
+    files: &[(&str, &str)],
+    which: Which,
+    fault: RowFault,
+) -> Result<bool, Fail> {
+    is_refused(alloc, lines, files, InputFault::Row(which, fault))
+}
+
+/// Whether this quantity of the project is above its limit.
+fn is_above(alloc: Global, lines: &str, files: &[(&str, &str)], what: What) -> Result<bool, Fail> {
+    is_refused(alloc, lines, files, InputFault::Sum(what))
 }
