@@ -9,12 +9,12 @@ use std::marker::Model;
 use std::test::Fail;
 
 /// What a run of these two files leaves.
-fn left_of(alloc: Global, input: &[u8], units: &[u8]) -> Result<Left, Fail> {
+fn left_of<'a>(alloc: Global, input: &'a [u8], units: &'a [u8]) -> Result<Left, Fail> {
     left_by(alloc, &[("input.dat", input), ("pu.dat", units)])
 }
 
 /// Whether these two files are refused with this text.
-fn refuses(alloc: Global, input: &[u8], units: &[u8], said: &str) -> Result<bool, Fail> {
+fn refuses<'a>(alloc: Global, input: &'a [u8], units: &'a [u8], said: &str) -> Result<bool, Fail> {
     let left = left_of(alloc, input, units)?;
     Ok(left.outcome.code == 2 && left.has_said(said.as_bytes()))
 }
@@ -160,7 +160,12 @@ fn a_negative_seed_takes_the_number_that_is_handed_in(rt: HostRuntime) -> Result
 }
 
 /// The score of a plan of the project of these two files, in ten-thousandths.
-fn score_of(alloc: Global, input: &[u8], units: &[u8], zones: &[u8]) -> Result<Option<u128>, Fail> {
+fn score_of<'a>(
+    alloc: Global,
+    input: &'a [u8],
+    units: &'a [u8],
+    zones: &[u8],
+) -> Result<Option<u128>, Fail> {
     let files = [("input.dat", input), ("pu.dat", units)];
     let mut shelf = shelf_with(alloc, Vec::new(alloc), 0, &files)?;
     match prepare(alloc, &words(alloc, "input.dat", "1")?, 0, &mut shelf) {
@@ -219,7 +224,13 @@ fn folders_stand_before_the_names(rt: HostRuntime) -> Result<(), Fail> {
 }
 
 /// Whether this is said of a project of these units, with these further lines and this file.
-fn says(alloc: Global, lines: &[u8], units: &[u8], file: &[u8], said: &str) -> Result<bool, Fail> {
+fn says<'a>(
+    alloc: Global,
+    lines: &[u8],
+    units: &'a [u8],
+    file: &'a [u8],
+    said: &str,
+) -> Result<bool, Fail> {
     let input = with_lines(alloc, lines)?;
     let files = [
         ("input.dat", input.as_slice()),

@@ -34,10 +34,20 @@ pub(crate) fn shelf_with(
     files: &[(&str, &[u8])],
 ) -> Result<MemShelf, Fail> {
     let mut shelf = MemShelf::new(alloc, fails, cut)?;
+    put_files(alloc, &mut shelf, files)?;
+    Ok(shelf)
+}
+
+/// Puts files on a shelf, in the place of those that have their names.
+pub(crate) fn put_files(
+    alloc: Global,
+    shelf: &mut MemShelf,
+    files: &[(&str, &[u8])],
+) -> Result<(), Fail> {
     for (name, bytes) in files {
         shelf.put(alloc, name, bytes)?;
     }
-    Ok(shelf)
+    Ok(())
 }
 
 /// What a run by one worker leaves on a shelf.

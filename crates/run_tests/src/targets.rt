@@ -1,5 +1,5 @@
 //! Projects with targets and boundaries, run whole over shelves in memory.
-use crate::left::{Left, left_by};
+use crate::left::{Left, left_on, put_files, shelf_with};
 use std::alloc::Global;
 use std::test::Fail;
 
@@ -23,20 +23,22 @@ const AMOUNTS: &[u8] = b"species,pu,amount\n1,1,2\n1,2,3\n1,3,4\n";
 
 const BOUNDS: &[u8] = b"id1,id2,boundary\n1,2,5\n2,3,7\n1,1,2\n";
 
+/// The files of the project beside its parameter file.
+const FILES: [(&str, &[u8]); 4] = [
+    ("pu.dat", UNITS),
+    ("feat.dat", FEATURES),
+    ("amounts.dat", AMOUNTS),
+    ("bound.dat", BOUNDS),
+];
+
 /// What a run of the project leaves, with further lines of its parameter file, and with these files in
 /// the place of its own.
 fn project(alloc: Global, lines: &str, files: &[(&str, &[u8])]) -> Result<Left, Fail> {
     let input = format!(in alloc; "{INPUT}{lines}")?;
-    let mut all = Vec::new(alloc);
-    all.push(("input.dat", input.as_bytes()))?;
-    all.push(("pu.dat", UNITS))?;
-    all.push(("feat.dat", FEATURES))?;
-    all.push(("amounts.dat", AMOUNTS))?;
-    all.push(("bound.dat", BOUNDS))?;
-    for (name, bytes) in files {
-        all.push((*name, *bytes))?;
-    }
-    left_by(alloc, &all)
+    let mut shelf = shelf_with(alloc, Vec::new(alloc), 0, &FILES)?;
+    put_files(alloc, &mut shelf, &[("input.dat", input.as_bytes())])?;
+    put_files(alloc, &mut shelf, files)?;
+    left_on(alloc, &mut shelf, "output_best.csv")
 }
 
 /// Whether a good run of the project leaves this file of the best run.

@@ -326,12 +326,12 @@ fn unit_files_of_no_form_are_refused(rt: HostRuntime) -> Result<(), Fail> {
 }
 
 /// Whether the costs of these units are above their limit.
-fn costs_are_above(alloc: Global, units: &str, multipliers: &str) -> Result<bool, Fail> {
+fn costs_are_above<'a>(alloc: Global, units: &'a str, multipliers: &'a str) -> Result<bool, Fail> {
     let files = [("pu.dat", units), ("f", multipliers)];
     is_above(alloc, "ZONECOSTNAME f", &files, What::Cost)
 }
 
-fn costs_are_taken(alloc: Global, units: &str, multipliers: &str) -> Result<bool, Fail> {
+fn costs_are_taken<'a>(alloc: Global, units: &'a str, multipliers: &'a str) -> Result<bool, Fail> {
     let files = [("pu.dat", units), ("f", multipliers)];
     is_taken(alloc, "ZONECOSTNAME f", &files)
 }

@@ -141,17 +141,16 @@ fn a_zone_target_may_be_a_share(rt: HostRuntime) -> Result<(), Fail> {
 }
 
 /// Whether the boundary of a plan of a project with these boundaries has this cost.
-fn has_boundary(
+fn has_boundary<'a>(
     alloc: Global,
     lines: &str,
-    bounds: &str,
-    costs: &str,
+    bounds: &'a str,
+    costs: &'a str,
     zones: &[u8],
     boundary: u128,
 ) -> Result<bool, Fail> {
-    let lines = format!(in alloc; "BOUNDNAME b\n{lines}")?;
     let files = [UNITS, ("b", bounds), ("k", costs)];
-    match score_of(alloc, lines.as_str(), &files, zones)? {
+    match score_of(alloc, lines, &files, zones)? {
         Some(score) => Ok(score.1 == boundary),
         None => Ok(false),
     }
@@ -160,18 +159,19 @@ fn has_boundary(
 #[test]
 fn boundaries_are_added_and_weighed(rt: HostRuntime) -> Result<(), Fail> {
     let alloc = rt.alloc();
+    let lines = "BOUNDNAME b\nBLM 1";
     let pairs = "id1,id2,boundary\n1,2,3\n2,1,2\n";
     let outer = "id1,id2,boundary\n1,1,3\n1,1,2\n";
     let short = "id1,id2,boundary\n1,2,0.0001\n";
-    assert!(rt; has_boundary(alloc, "BLM 1", pairs, "", &[1, 0, 0], 50_000)?);
-    assert!(rt; has_boundary(alloc, "BLM 1", outer, "", &[1, 0, 0], 50_000)?);
-    assert!(rt; has_boundary(alloc, "BLM 0.5", short, "", &[1, 0, 0], 1)?);
+    assert!(rt; has_boundary(alloc, lines, pairs, "", &[1, 0, 0], 50_000)?);
+    assert!(rt; has_boundary(alloc, lines, outer, "", &[1, 0, 0], 50_000)?);
+    assert!(rt; has_boundary(alloc, "BOUNDNAME b\nBLM 0.5", short, "", &[1, 0, 0], 1)?);
     Ok(())
 }
 
 /// The same with these costs between zones.
 fn has_boundary_at(alloc: Global, costs: &str, zones: &[u8], boundary: u128) -> Result<bool, Fail> {
-    let lines = "ZONEBOUNDCOSTNAME k\nBLM 1";
+    let lines = "BOUNDNAME b\nZONEBOUNDCOSTNAME k\nBLM 1";
     has_boundary(alloc, lines, BOUNDS.1, costs, zones, boundary)
 }
 
