@@ -25,19 +25,30 @@ const BOUNDS: (&str, &str) = ("bound.dat", "id1,id2,boundary\n1,2,5\n2,3,7\n1,1,
 
 /// A shelf with a parameter file of these lines behind the name of the unit file, and these files.
 fn shelf_of(alloc: Global, lines: &str, files: &[(&str, &str)]) -> Result<MemShelf, Fail> {
-    let mut shelf = MemShelf::new(alloc, Vec::new(alloc), 0)?;
-    put_files(alloc, &mut shelf, lines, files)?;
+    shelf_that_fails(alloc, Vec::new(alloc), lines, files)
+}
+
+/// The same, of whose calls these fail.
+fn shelf_that_fails(
+    alloc: Global,
+    fails: Vec<u64>,
+    lines: &str,
+    files: &[(&str, &str)],
+) -> Result<MemShelf, Fail> {
+    let mut shelf = MemShelf::new(alloc, fails, 0)?;
+    put_input(alloc, &mut shelf, lines)?;
+    put_files(alloc, &mut shelf, files)?;
     Ok(shelf)
 }
 
-fn put_files(
-    alloc: Global,
-    shelf: &mut MemShelf,
-    lines: &str,
-    files: &[(&str, &str)],
-) -> Result<(), Fail> {
-    let input = format!(in alloc; "PUNAME pu.dat\n{lines}")?;
+fn put_input(alloc: Global, shelf: &mut MemShelf, lines: &str) -> Result<(), Fail> {
+    let mut input = String::from_str(alloc, "PUNAME pu.dat\n")?;
+    input.push_str(lines)?;
     shelf.put(alloc, "input.dat", input.as_bytes())?;
+    Ok(())
+}
+
+fn put_files(alloc: Global, shelf: &mut MemShelf, files: &[(&str, &str)]) -> Result<(), Fail> {
     for (name, text) in files {
         shelf.put(alloc, name, text.as_bytes())?;
     }

@@ -1,5 +1,6 @@
 //! Projects with targets and boundaries, run whole over shelves in memory.
 use crate::left::{Left, left_on, put_files, shelf_with};
+use mz_shelf::MemShelf;
 use std::alloc::Global;
 use std::test::Fail;
 
@@ -34,11 +35,18 @@ const FILES: [(&str, &[u8]); 4] = [
 /// What a run of the project leaves, with further lines of its parameter file, and with these files in
 /// the place of its own.
 fn project(alloc: Global, lines: &str, files: &[(&str, &[u8])]) -> Result<Left, Fail> {
-    let input = format!(in alloc; "{INPUT}{lines}")?;
     let mut shelf = shelf_with(alloc, Vec::new(alloc), 0, &FILES)?;
-    put_files(alloc, &mut shelf, &[("input.dat", input.as_bytes())])?;
+    put_input(alloc, &mut shelf, lines)?;
     put_files(alloc, &mut shelf, files)?;
     left_on(alloc, &mut shelf, "output_best.csv")
+}
+
+/// Puts the parameter file, with these further lines.
+fn put_input(alloc: Global, shelf: &mut MemShelf, lines: &str) -> Result<(), Fail> {
+    let mut input = String::from_str(alloc, INPUT)?;
+    input.push_str(lines)?;
+    shelf.put(alloc, "input.dat", input.as_bytes())?;
+    Ok(())
 }
 
 /// Whether a good run of the project leaves this file of the best run.

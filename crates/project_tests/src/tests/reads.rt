@@ -1,7 +1,6 @@
 //! Which files are read, and in which order: where call number `call` fails, the name is that of its file.
-use super::{UNITS, put_files, read};
+use super::{UNITS, read, shelf_that_fails};
 use mz_project::ReadFault;
-use mz_shelf::MemShelf;
 use std::alloc::Global;
 use std::test::Fail;
 
@@ -19,8 +18,7 @@ ZONEBOUNDCOSTNAME k";
 
 /// The name of the file whose read fails where that call does; `none` where every call is done.
 fn read_by(alloc: Global, lines: &str, files: &[(&str, &str)], call: u64) -> Result<String, Fail> {
-    let mut shelf = MemShelf::new(alloc, vec![in alloc; call]?, 0)?;
-    put_files(alloc, &mut shelf, lines, files)?;
+    let mut shelf = shelf_that_fails(alloc, vec![in alloc; call]?, lines, files)?;
     match read(alloc, &mut shelf) {
         Err(ReadFault::Shelf(name)) => Ok(name.into_string()),
         Ok(_) => Ok(String::from_str(alloc, "none")?),
