@@ -113,7 +113,8 @@ pub fn repeated(alloc: Global, value: u64, count: u32) -> Result<Items<u64>, Fau
 /// The fractions of three zones, in millionths: nothing, one half, and all of each feature.
 pub fn fractions(alloc: Global, features: u32) -> Result<Items<u64>, Fault>
     requires { features ≤ 10000 }
-    ensures { IfOk result (λ fractions. (length fractions ≡ 3 * features) × All (λ fraction. fraction ≤ 1000000) fractions) }
+    ensures { IfOk result (λ fractions.
+        (length fractions ≡ 3 * features) × All (λ fraction. fraction ≤ 1000000) fractions) }
 {
     let mut fractions = Vec::new(alloc);
     for place in 0..3 * features {

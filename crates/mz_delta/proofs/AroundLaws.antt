@@ -9,17 +9,17 @@ use Rattle.mz_model.specs.Boundary.{edge_term_of, neighbours_of, no_neighbour}
 use Rattle.mz_model.specs.Parts.{unit_count, zone_count, outer_at, rate_at}
 use Rattle.mz_num.specs.Places.{list_below, sum_below}
 use Rattle.mz_model.specs.Scores.{penalty_term_of}
-use Rattle.mz_model.specs.Targets.{gain_from, gain_of, no_touch, touched_rows, touches_of}
+use Rattle.mz_model.specs.Targets.{gain_from, gain_of, held_after, no_touch, touched_rows, touches_of}
 use Rattle.mz_model.specs.Valid.{IsValid}
 use Rattle.mz_model.specs.Zones.{is_allowed}
 use Rattle.mz_num.specs.Round.{round}
 use Rattle.mz_model.proofs.LimitLaws.{edge_term_of-is}
 use Rattle.mz_model.proofs.NeighbourLaws.{neighbours_of-in_range}
-use Rattle.mz_num.proofs.PlaceLaws.{length-list_below, list_below-more}
+use Rattle.mz_num.proofs.PlaceLaws.{get_or-list_below, length-list_below, list_below-more, sum_below-same}
 use Rattle.mz_model.proofs.TouchLaws.{gain_from-touch, gain_of-touched-le, get_or-touches_of, length-touches_of}
 use Rattle.mz_model.proofs.ZoneLaws.{is_allowed-in_range}
 use Rattle.mz_delta.specs.declared.reading.Reading.{Reading}
-use Rattle.mz_delta.specs.Move.{boundary_around, moved_total, moved_totals, neighbour_term, penalty_around}
+use Rattle.mz_delta.specs.Move.{boundary_around, moved_total, moved_totals, neighbour_term, penalty_around, penalty_moved, penalty_read, touched_penalty}
 use Rattle.mz_delta.specs.Reading.{IsWellFormed, neighbour_at}
 use Rattle.mz_delta.proofs.DifferenceLaws.{crosswise}
 
@@ -45,49 +45,45 @@ boundary_around-is parts reading zone i sum outer all terms last =
     let whole : sum ≡ sum_below (length (neighbours_of parts reading.unit)) (neighbour_term parts reading zone) = terms ∙ ap (λ n. sum_below n (neighbour_term parts reading zone)) all in
     omega arith
 
--- a pair whose rate doesn't change has the same term
-pub neighbour_term-same : (parts : Parts) (reading : Reading) (zones : List ℕ) (old new i a b : ℕ) → zones ≡ reading.neighbours.items → a ≡ rate_at parts old (get_or zones i 0) → b ≡ rate_at parts new (get_or zones i 0) → a ≡ b → neighbour_term parts reading old i ≡ neighbour_term parts reading new i
-unfolding neighbour_term
-neighbour_term-same parts reading zones old new i a b same e f rates =
-    let len : ℕ = (get_or (neighbours_of parts reading.unit) i no_neighbour).length in
-    let z : ℕ = get_or reading.neighbours.items i 0 in
-    let at : get_or zones i 0 ≡ z = ap (λ zs. get_or zs i 0) same in
-    let rate : rate_at parts old z ≡ rate_at parts new z = sym (e ∙ ap (rate_at parts old) at) ∙ rates ∙ f ∙ ap (rate_at parts new) at in
-    edge_term_of-is parts len old z ∙ ap (λ r. round (len * r) 1000000) rate ∙ sym (edge_term_of-is parts len new z)
+-- a length whose rate stays has the same term
+pub edge_term-same : (parts : Parts) (len old new other a b : ℕ) → a ≡ rate_at parts old other → b ≡ rate_at parts new other → a ≡ b → edge_term_of parts len old other ≡ edge_term_of parts len new other
+edge_term-same parts len old new other a b e f rates =
+    edge_term_of-is parts len old other ∙ ap (λ r. round (len * r) 1000000) (sym e ∙ rates ∙ f) ∙ sym (edge_term_of-is parts len new other)
+
+-- the terms of the outer length, of the length and the available zone as they were read
+pub outer-change : (parts : Parts) (unit old new len other before after : ℕ) → len ≡ outer_at parts unit → other ≡ parts.available → after + edge_term_of parts len old other ≡ before + edge_term_of parts len new other
+    → after + edge_term_of parts (outer_at parts unit) old parts.available ≡ before + edge_term_of parts (outer_at parts unit) new parts.available
+outer-change parts unit old new len other before after e f change =
+    let term : (k : ℕ) → edge_term_of parts len k other ≡ edge_term_of parts (outer_at parts unit) k parts.available = λ k. ap (λ n. edge_term_of parts n k other) e ∙ ap (edge_term_of parts (outer_at parts unit) k) f in
+    omega (arith, term old, term new)
 
 -- the change round a unit, from the terms that change
 pub boundary_around-change : (parts : Parts) (reading : Reading) (old new i before after old_outer new_outer : ℕ) → i ≡ length (neighbours_of parts reading.unit) → after + sum_below i (neighbour_term parts reading old) ≡ before + sum_below i (neighbour_term parts reading new)
-    → old_outer ≡ edge_term_of parts (outer_at parts reading.unit) old parts.available → new_outer ≡ edge_term_of parts (outer_at parts reading.unit) new parts.available → pos (after + new_outer) -ℤ pos (before + old_outer) ≡ pos (boundary_around parts reading new) -ℤ pos (boundary_around parts reading old)
-boundary_around-change parts reading old new i before after old_outer new_outer all change e f =
-    let was : sum_below i (neighbour_term parts reading old) + old_outer ≡ boundary_around parts reading old = boundary_around-is parts reading old i (sum_below i (neighbour_term parts reading old)) old_outer all refl e in
-    let is : sum_below i (neighbour_term parts reading new) + new_outer ≡ boundary_around parts reading new = boundary_around-is parts reading new i (sum_below i (neighbour_term parts reading new)) new_outer all refl f in
+    → new_outer + edge_term_of parts (outer_at parts reading.unit) old parts.available ≡ old_outer + edge_term_of parts (outer_at parts reading.unit) new parts.available
+    → pos (after + new_outer) -ℤ pos (before + old_outer) ≡ pos (boundary_around parts reading new) -ℤ pos (boundary_around parts reading old)
+boundary_around-change parts reading old new i before after old_outer new_outer all change last =
+    let was : sum_below i (neighbour_term parts reading old) + edge_term_of parts (outer_at parts reading.unit) old parts.available ≡ boundary_around parts reading old = boundary_around-is parts reading old i (sum_below i (neighbour_term parts reading old)) (edge_term_of parts (outer_at parts reading.unit) old parts.available) all refl refl in
+    let is : sum_below i (neighbour_term parts reading new) + edge_term_of parts (outer_at parts reading.unit) new parts.available ≡ boundary_around parts reading new = boundary_around-is parts reading new i (sum_below i (neighbour_term parts reading new)) (edge_term_of parts (outer_at parts reading.unit) new parts.available) all refl refl in
     crosswise (boundary_around parts reading new) (boundary_around parts reading old) (after + new_outer) (before + old_outer) (omega arith)
 
--- the penalty of touched row i, of which so much is held
-abbrev pub touched_penalty : Parts → ℕ → List ℕ → ℕ → ℕ
-touched_penalty parts unit totals i = penalty_term_of parts (slice_index (touched_rows parts unit) i) (slice_index totals i)
+-- the penalty of touched row i after the move
+abbrev pub moved_penalty : Parts → Reading → ℕ → ℕ → ℕ
+moved_penalty parts reading zone i = penalty_term_of parts (slice_index (touched_rows parts reading.unit) i) (moved_total parts reading zone i)
 
-pub touched_penalty-is : (parts : Parts) (unit i : ℕ) (totals : List ℕ) (touches : List Touch) → touches ≡ touches_of parts unit → i < length touches → penalty_term_of parts (get_or touches i no_touch).row (get_or totals i 0) ≡ touched_penalty parts unit totals i
-touched_penalty-is parts unit i totals touches e h =
-    let inside : i < length (touched_rows parts unit) = omega (arith, ap length e, length-touches_of parts unit) in
-    ap (λ (ts : List Touch). penalty_term_of parts (get_or ts i no_touch).row (get_or totals i 0)) e
-    ∙ ap (λ (touch : Touch). penalty_term_of parts touch.row (get_or totals i 0)) (get_or-touches_of parts unit i no_touch inside)
+pub penalty_read-is : (parts : Parts) (reading : Reading) (i : ℕ) → i ≡ length (touched_rows parts reading.unit) → sum_below i (touched_penalty parts reading.unit reading.totals.items) ≡ penalty_read parts reading
+unfolding penalty_around
+penalty_read-is parts reading i all = ap (λ n. sum_below n (touched_penalty parts reading.unit reading.totals.items)) all
+
+pub penalty_moved-is : (parts : Parts) (reading : Reading) (zone i : ℕ) → i ≡ length (touched_rows parts reading.unit) → sum_below i (moved_penalty parts reading zone) ≡ penalty_moved parts reading zone
+unfolding penalty_around moved_totals
+penalty_moved-is parts reading zone i all =
+    let n : ℕ = length (touched_rows parts reading.unit) in
+    ap (λ m. sum_below m (moved_penalty parts reading zone)) all
+    ∙ sum_below-same n (moved_penalty parts reading zone) (touched_penalty parts reading.unit (list_below n (moved_total parts reading zone)))
+    (λ k h. ap (penalty_term_of parts (slice_index (touched_rows parts reading.unit) k)) (sym (get_or-list_below n k (moved_total parts reading zone) 0 h)))
 
 pub touches-all : (parts : Parts) (unit i : ℕ) (touches : List Touch) → touches ≡ touches_of parts unit → i ≤ length touches → length touches ≤ i → i ≡ length (touched_rows parts unit)
 touches-all parts unit i touches e h g = omega (arith, ap length e, length-touches_of parts unit)
-
--- a row of which as much is held has the same penalty
-pub touched_penalty-same : (parts : Parts) (unit i : ℕ) (old new : List ℕ) → get_or old i 0 ≡ get_or new i 0 → touched_penalty parts unit old i ≡ touched_penalty parts unit new i
-touched_penalty-same parts unit i old new e = ap (penalty_term_of parts (slice_index (touched_rows parts unit) i)) e
-
--- two sums over some rows differ as those over all touched rows do
-pub penalty_around-change : (parts : Parts) (unit i before after : ℕ) (old new : List ℕ) → i ≡ length (touched_rows parts unit)
-    → after + sum_below i (touched_penalty parts unit old) ≡ before + sum_below i (touched_penalty parts unit new)
-    → pos after -ℤ pos before ≡ pos (penalty_around parts unit new) -ℤ pos (penalty_around parts unit old)
-unfolding penalty_around
-penalty_around-change parts unit i before after old new all change =
-    let rows : after + sum_below (length (touched_rows parts unit)) (touched_penalty parts unit old) ≡ before + sum_below (length (touched_rows parts unit)) (touched_penalty parts unit new) = subst (λ n. after + sum_below n (touched_penalty parts unit old) ≡ before + sum_below n (touched_penalty parts unit new)) all change in
-    crosswise (sum_below (length (touched_rows parts unit)) (touched_penalty parts unit new)) (sum_below (length (touched_rows parts unit)) (touched_penalty parts unit old)) after before (omega arith)
 
 -- what a unit's amount for a row that it touches counts in a zone that it may have
 pub record IsGain (parts : Parts) (unit i zone : ℕ) (touch : Touch) : Type 0 where
@@ -106,21 +102,54 @@ read_total-le parts reading i held touches well e f h =
     subst (λ (ts : List ℕ). get_or ts i 0 ≤ 10 ^ 18) (sym e)
     (All-get_or (λ total. total ≤ 10 ^ 18) reading.totals.items i 0 (omega (arith, well.touched, ap length f, length-touches_of parts reading.unit)) well.totals)
 
--- one total more
-pub moved_totals-more : (parts : Parts) (reading : Reading) (zone i total gained lost : ℕ) (touch : Touch) (totals totals' held : List ℕ)
-    → totals ≡ list_below i (moved_total parts reading zone) → held ≡ reading.totals.items
-    → IsGain parts reading.unit i zone touch → gained ≡ gain_from parts touch.row touch.amount zone
-    → IsGain parts reading.unit i reading.zone touch → lost ≡ gain_from parts touch.row touch.amount reading.zone
-    → total ≡ get_or held i 0 + gained - lost → totals' ≡ totals ++ total ∷ []
-    → totals' ≡ list_below (i + 1) (moved_total parts reading zone)
+-- a touched row as the walk over them meets it, with what was read of it
+pub record IsMovedRow (parts : Parts) (reading : Reading) (zone i : ℕ) (touch : Touch) (held : ℕ) : Type 0 where
+  pub row : touch.row ≡ slice_index (touched_rows parts reading.unit) i
+  pub held_is : held ≡ slice_index reading.totals.items i
+  pub held_small : held ≤ 10 ^ 18
+  pub lost : gain_from parts touch.row touch.amount reading.zone ≤ 10 ^ 18
+  pub gained : gain_from parts touch.row touch.amount zone ≤ 10 ^ 18
+  pub total : held_after parts touch held reading.zone zone ≡ moved_total parts reading zone i
+
+pub moved-row : (parts : Parts) (reading : Reading) (zone i : ℕ) (touches : List Touch) (held : List ℕ) → IsValid parts → IsWellFormed parts reading → IsTrue (is_allowed parts reading.unit zone) → touches ≡ touches_of parts reading.unit → held ≡ reading.totals.items → i < length touches → IsMovedRow parts reading zone i (get_or touches i no_touch) (get_or held i 0)
 unfolding moved_total
-moved_totals-more parts reading zone i total gained lost touch totals totals' held so_far read gain more loss less is pushed =
-    pushed ∙ ap (λ (xs : List ℕ). xs ++ total ∷ []) so_far
-    ∙ ap (λ n. list_below i (moved_total parts reading zone) ++ n ∷ [])
-    (is ∙ ap (λ (xs : List ℕ). get_or xs i 0 + gained - lost) read
-    ∙ ap (λ n. get_or reading.totals.items i 0 + n - lost) (more ∙ gain.is)
-    ∙ ap (λ n. get_or reading.totals.items i 0 + gain_of parts (slice_index (touched_rows parts reading.unit) i) reading.unit zone - n) (less ∙ loss.is))
-    ∙ sym (list_below-more i (moved_total parts reading zone))
+moved-row parts reading zone i touches held valid well allowed e f h =
+    let touch : Touch = get_or touches i no_touch in
+    let inside : i < length (touched_rows parts reading.unit) = omega (arith, ap length e, length-touches_of parts reading.unit) in
+    let gain : IsGain parts reading.unit i zone touch = touch-gain parts reading.unit i zone touches valid well.unit allowed e h in
+    let loss : IsGain parts reading.unit i reading.zone touch = touch-gain parts reading.unit i reading.zone touches valid well.unit well.zone e h in
+    record {
+      row = ap (λ (t : Touch). t.row) (ap (λ (ts : List Touch). get_or ts i no_touch) e ∙ get_or-touches_of parts reading.unit i no_touch inside);
+      held_is = ap (λ (ts : List ℕ). get_or ts i 0) f;
+      held_small = read_total-le parts reading i held touches well f e h;
+      lost = loss.small;
+      gained = gain.small;
+      total = ap (λ (ts : List ℕ). get_or ts i 0 + gain_from parts touch.row touch.amount zone - gain_from parts touch.row touch.amount reading.zone) f
+          ∙ ap (λ n. get_or reading.totals.items i 0 + n - gain_from parts touch.row touch.amount reading.zone) gain.is
+          ∙ ap (λ n. get_or reading.totals.items i 0 + gain_of parts (slice_index (touched_rows parts reading.unit) i) reading.unit zone - n) loss.is;
+    }
+
+-- the penalties of such a row
+pub penalty-before : (parts : Parts) (reading : Reading) (zone i : ℕ) (touch : Touch) (held : ℕ) → IsMovedRow parts reading zone i touch held → penalty_term_of parts touch.row held ≡ touched_penalty parts reading.unit reading.totals.items i
+penalty-before parts reading zone i touch held is =
+    ap (λ r. penalty_term_of parts r held) is.row ∙ ap (penalty_term_of parts (slice_index (touched_rows parts reading.unit) i)) is.held_is
+
+pub penalty-after : (parts : Parts) (reading : Reading) (zone i : ℕ) (touch : Touch) (held total : ℕ) → IsMovedRow parts reading zone i touch held → total ≡ held_after parts touch held reading.zone zone → penalty_term_of parts touch.row total ≡ moved_penalty parts reading zone i
+penalty-after parts reading zone i touch held total is e =
+    ap (λ r. penalty_term_of parts r total) is.row ∙ ap (penalty_term_of parts (slice_index (touched_rows parts reading.unit) i)) (e ∙ is.total)
+
+-- the penalty of touched row i, as it was read
+pub touched_penalty-is : (parts : Parts) (reading : Reading) (i : ℕ) (touches : List Touch) (held : List ℕ) → touches ≡ touches_of parts reading.unit → held ≡ reading.totals.items → i < length touches → penalty_term_of parts (get_or touches i no_touch).row (get_or held i 0) ≡ touched_penalty parts reading.unit reading.totals.items i
+touched_penalty-is parts reading i touches held e f h =
+    let inside : i < length (touched_rows parts reading.unit) = omega (arith, ap length e, length-touches_of parts reading.unit) in
+    ap (λ (ts : List Touch). penalty_term_of parts (get_or ts i no_touch).row (get_or held i 0)) e
+    ∙ ap (λ (touch : Touch). penalty_term_of parts touch.row (get_or held i 0)) (get_or-touches_of parts reading.unit i no_touch inside)
+    ∙ ap (λ (ts : List ℕ). penalty_term_of parts (get_or (touched_rows parts reading.unit) i 0) (get_or ts i 0)) f
+
+-- one total more
+pub moved_totals-more : (parts : Parts) (reading : Reading) (zone i total : ℕ) (totals totals' : List ℕ) → totals ≡ list_below i (moved_total parts reading zone) → total ≡ moved_total parts reading zone i → totals' ≡ totals ++ total ∷ [] → totals' ≡ list_below (i + 1) (moved_total parts reading zone)
+moved_totals-more parts reading zone i total totals totals' so_far is pushed =
+    pushed ∙ ap (λ (xs : List ℕ). xs ++ total ∷ []) so_far ∙ ap (λ n. list_below i (moved_total parts reading zone) ++ n ∷ []) is ∙ sym (list_below-more i (moved_total parts reading zone))
 
 pub moved_totals-is : (parts : Parts) (reading : Reading) (zone i : ℕ) (totals : List ℕ) → i ≡ length (touched_rows parts reading.unit) → totals ≡ list_below i (moved_total parts reading zone) → totals ≡ moved_totals parts reading zone
 unfolding moved_totals

@@ -20,7 +20,7 @@ use Rattle.mz_model.proofs.ScoreLaws.{boundary_of_plan-is}
 use Rattle.mz_delta.specs.declared.judged.Judged.{Judged}
 use Rattle.mz_delta.specs.declared.reading.Reading.{Reading}
 use Rattle.mz_delta.specs.Judged.{IsDifference}
-use Rattle.mz_delta.specs.Move.{boundary_around, moved_total, moved_totals, neighbour_term, penalty_around}
+use Rattle.mz_delta.specs.Move.{boundary_around, boundary_growth, cost_growth, moved_total, moved_totals, neighbour_term, penalty_around, penalty_growth, penalty_moved, penalty_read, touched_penalty}
 use Rattle.mz_model.specs.Move.{moved_plan}
 use Rattle.mz_delta.specs.Reading.{Agrees, IsWellFormed, neighbour_at}
 use Rattle.mz_delta.proofs.DifferenceLaws.{crosswise, sum_of_differences}
@@ -101,9 +101,9 @@ penalty_around-held parts unit zones totals held =
 -- what was counted round the unit for a move to the zone
 pub record IsCounted (parts : Parts) (reading : Reading) (zone : ℕ) (judged : Judged) : Type 0 where
   pub unit : judged.unit ≡ reading.unit
-  pub cost : judged.cost ≡ pos (cost_at parts reading.unit zone) -ℤ pos (cost_at parts reading.unit reading.zone)
-  pub boundary : judged.boundary ≡ pos (boundary_around parts reading zone) -ℤ pos (boundary_around parts reading reading.zone)
-  pub penalty : judged.penalty ≡ pos (penalty_around parts reading.unit judged.totals.items) -ℤ pos (penalty_around parts reading.unit reading.totals.items)
+  pub cost : judged.cost ≡ cost_growth parts reading zone
+  pub boundary : judged.boundary ≡ boundary_growth parts reading zone
+  pub penalty : judged.penalty ≡ penalty_growth parts reading zone
   pub change : judged.change ≡ judged.cost +ℤ judged.boundary +ℤ judged.penalty
   pub totals : judged.totals.items ≡ moved_totals parts reading zone
 
@@ -117,8 +117,8 @@ counted-difference parts reading zones zone judged valid well allowed counted le
     let boundary : judged.boundary ≡ pos (boundary_of_plan parts after) -ℤ pos (boundary_of_plan parts zones) =
     counted.boundary ∙ crosswise (boundary_of_plan parts after) (boundary_of_plan parts zones) (boundary_around parts reading zone) (boundary_around parts reading reading.zone) (boundary-moved parts reading zones zone valid well allowed legal agrees) in
     let penalty : judged.penalty ≡ pos (penalty_of_plan parts after) -ℤ pos (penalty_of_plan parts zones) =
-    counted.penalty ∙ crosswise (penalty_of_plan parts after) (penalty_of_plan parts zones) (penalty_around parts reading.unit judged.totals.items) (penalty_around parts reading.unit reading.totals.items)
-    (omega (arith, penalty-moved parts zones reading.unit zone valid legal well.unit allowed, penalty_around-held parts reading.unit zones reading.totals.items agrees.totals, penalty_around-held parts reading.unit (moved_plan zones reading.unit zone) judged.totals.items totals)) in
+    counted.penalty ∙ crosswise (penalty_of_plan parts after) (penalty_of_plan parts zones) (penalty_moved parts reading zone) (penalty_read parts reading)
+    (omega (arith, penalty-moved parts zones reading.unit zone valid legal well.unit allowed, penalty_around-held parts reading.unit zones reading.totals.items agrees.totals, penalty_around-held parts reading.unit (moved_plan zones reading.unit zone) (moved_totals parts reading zone) (moved_totals-held parts reading zones zone well legal agrees))) in
     record {
       cost = cost;
       boundary = boundary;

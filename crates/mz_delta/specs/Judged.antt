@@ -39,7 +39,8 @@ pub record IsJudged (parts : Parts) (reading : Reading) (zone place random : ℕ
   pub allowed : IsTrue (is_allowed parts reading.unit zone)
   pub word : judged.word ≡ random
   pub small : IsSmallChange judged
-  pub difference : (zones : List ℕ) → IsLegalPlan parts zones → Agrees parts zones reading → IsDifference parts zones (moved_plan zones reading.unit zone) judged
+  pub difference : (zones : List ℕ) → IsLegalPlan parts zones → Agrees parts zones reading
+      → IsDifference parts zones (moved_plan zones reading.unit zone) judged
 
 -- the reading can be judged with the draw, and this is what comes of it: the move goes to the zone that the draw gives
 pub record IsRight (parts : Parts) (reading : Reading) (draw : Draw) (judged : Judged) : Type 0 where

@@ -1,3 +1,4 @@
+pub mod Before
 pub mod Judged
 pub mod Move
 pub mod Reading

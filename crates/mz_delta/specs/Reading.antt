@@ -20,13 +20,15 @@ pub record IsWellFormed (parts : Parts) (reading : Reading) : Type 0 where
   pub unit : reading.unit < unit_count parts
   pub zone : IsTrue (is_allowed parts reading.unit reading.zone)
   pub degree : length reading.neighbours.items ≡ length (neighbours_of parts reading.unit)
-  pub neighbours : (i : ℕ) → i < length (neighbours_of parts reading.unit) → IsTrue (is_allowed parts (neighbour_at parts reading.unit i) (slice_index reading.neighbours.items i))
+  pub neighbours : (i : ℕ) → i < length (neighbours_of parts reading.unit)
+      → IsTrue (is_allowed parts (neighbour_at parts reading.unit i) (slice_index reading.neighbours.items i))
   pub touched : length reading.totals.items ≡ length (touched_rows parts reading.unit)
   pub totals : All (λ total. total ≤ 10 ^ 18) reading.totals.items
 
 -- the zones of a unit's neighbours in a plan
 abbrev pub zones_around : Parts → List ℕ → ℕ → List ℕ
-zones_around parts zones unit = map (λ (neighbour : Neighbour). slice_index zones neighbour.unit) (neighbours_of parts unit)
+zones_around parts zones unit =
+    map (λ (neighbour : Neighbour). slice_index zones neighbour.unit) (neighbours_of parts unit)
 
 -- each item of the reading has its read value in the plan: the zone of a unit, or what is held for a target row
 pub record Agrees (parts : Parts) (zones : List ℕ) (reading : Reading) : Type 0 where

@@ -1,6 +1,21 @@
 //! Differences of sums.
 ghost use Rattle.std.specs.Prelude.{◌≡◌, ◌*◌, ◌^◌, ◌≤◌, pos, ◌+ℤ◌, ◌-ℤ◌, unsigned_abs};
 
+/// What a term was before a move, and what it is after it. Where the two are equal both may be left out.
+#[derive(Clone, Copy)]
+pub(crate) struct Terms {
+    pub before: u64,
+    pub after: u64,
+}
+
+/// By how much a move changes the cost, the boundary and the penalty of a plan.
+#[derive(Clone, Copy)]
+pub(crate) struct Differences {
+    pub cost: i128,
+    pub boundary: i128,
+    pub penalty: i128,
+}
+
 /// By how much a sum grew.
 #[inline]
 pub(crate) fn difference(after: u128, before: u128) -> i128

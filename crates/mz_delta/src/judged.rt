@@ -1,14 +1,18 @@
 //! What comes of a move that was judged, and the judging.
 ghost use Rattle.std.specs.Prelude.{◌≡◌, ◌<◌, ◌≤◌, IfOk, IsTrue};
+ghost use Rattle.mz_model.specs.Valid.{IsValid};
 ghost use Rattle.mz_model.specs.Zones.{is_allowed};
+ghost use Rattle.mz_delta.specs.Before.{AreGrowths};
 ghost use Rattle.mz_delta.specs.Judged.{IsJudged, IsRight};
+ghost use Rattle.mz_delta.specs.Move.{moved_totals};
 ghost use Rattle.mz_delta.specs.Reading.{IsWellFormed};
 ghost use Rattle.mz_delta.specs.Rooms.{FitsJudged};
 
-use crate::difference::{difference, sum_of};
-use crate::neighbourhood::{boundary_change, move_totals, penalty_change};
+use crate::boundary::boundary_change;
+use crate::difference::{Differences, difference, sum_of};
 use crate::reading::Reading;
 use crate::rooms::greatest_touched;
+use crate::rows::rows_change;
 use mz_draw::Draw;
 use mz_model::Problem;
 use mz_num::{Filled, NoMemory};
@@ -99,28 +103,49 @@ fn judge_move(
     ensures judged { IsJudged problem.now reading.now zone number word judged.exit.now }
     ensures fits { FitsJudged problem.now judged.exit.now }
 {
-    let unit = reading.unit;
-    let old = reading.zone;
-    move_totals(problem, reading, zone, &mut judged.totals);
+    let penalty = rows_change(problem, reading, zone, &mut judged.totals);
     let cost = difference(
-        problem.cost_of(unit, zone) as u128,
-        problem.cost_of(unit, old) as u128,
+        problem.cost_of(reading.unit, zone) as u128,
+        problem.cost_of(reading.unit, reading.zone) as u128,
     );
-    let boundary = boundary_change(problem, reading, zone);
-    let penalty = penalty_change(
-        problem,
-        unit,
-        reading.totals.as_slice(),
-        judged.totals.as_slice(),
-    );
+    let differences = Differences {
+        cost,
+        boundary: boundary_change(problem, reading, zone),
+        penalty,
+    };
+    put_move(problem, reading, zone, number, word, differences, judged);
+}
+
+/// Writes down a judged move: by how much it changes the score, and what reading and draw say of it. What is held
+/// after it stands in `judged` already.
+#[inline]
+pub(crate) fn put_move(
+    problem: &Problem,
+    reading: &Reading,
+    zone: u8,
+    number: u64,
+    word: u32,
+    differences: Differences,
+    judged: &mut Judged,
+)
+    requires well_formed { IsWellFormed problem.now reading.now }
+    requires allowed { IsTrue (is_allowed problem.now reading.now.unit zone) }
+    requires fits { FitsJudged problem.now judged.now }
+    requires totals { judged.now.totals.items ≡ moved_totals problem.now reading.now zone }
+    requires valid { IsValid problem.now }
+    requires growths { AreGrowths problem.now reading.now zone differences }
+    ensures judged { IsJudged problem.now reading.now zone number word judged.exit.now }
+    ensures fits { FitsJudged problem.now judged.exit.now }
+{
+    let _ = problem;
     judged.seat = reading.seat;
     judged.number = number;
-    judged.unit = unit;
-    judged.old = old;
+    judged.unit = reading.unit;
+    judged.old = reading.zone;
     judged.new = zone;
     judged.word = word;
-    judged.cost = cost;
-    judged.boundary = boundary;
-    judged.penalty = penalty;
-    judged.change = sum_of(cost, boundary, penalty);
+    judged.cost = differences.cost;
+    judged.boundary = differences.boundary;
+    judged.penalty = differences.penalty;
+    judged.change = sum_of(differences.cost, differences.boundary, differences.penalty);
 }

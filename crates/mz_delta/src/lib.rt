@@ -4,12 +4,15 @@
 //! numbers of ten-thousandths.
 #![tactic(auto)]
 
+mod before;
+mod boundary;
 mod difference;
 mod judged;
-mod neighbourhood;
 mod reading;
 mod rooms;
+mod rows;
 
+pub use before::{Before, judge_from, prepare};
 pub use judged::{Judged, judge, judge_zone};
 pub use mz_num::Filled;
 pub use reading::{Reading, read_plan, totals_of};

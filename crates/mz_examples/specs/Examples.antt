@@ -49,7 +49,11 @@ unfoldable pub unheld_features : Parts
 unheld_features = record three_units {
   feature_ids = 1 ∷ 2 ∷ 3 ∷ [];
   names = (102 ∷ []) ∷ (103 ∷ []) ∷ (104 ∷ []) ∷ [];
-  targets = four_anywhere ∷ record { feature = 1; zone = None; level = 0; weight = 10000 } ∷ record { feature = 2; zone = None; level = 50000; weight = 30000 } ∷ [];
+  targets =
+      four_anywhere
+      ∷ record { feature = 1; zone = None; level = 0; weight = 10000 }
+      ∷ record { feature = 2; zone = None; level = 50000; weight = 30000 }
+      ∷ [];
   fractions = 0 ∷ 0 ∷ 0 ∷ 1000000 ∷ 1000000 ∷ 1000000 ∷ [];
 }
 

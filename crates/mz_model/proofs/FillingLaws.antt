@@ -2,7 +2,7 @@
 use Rattle.std.proofs.Common.{◌≡◌, ℕ, zero, suc, ◌+◌, ◌-◌, ◌<◌, ◌≤◌, List, [], ◌∷◌, ◌++◌, length, get_or, set, take, drop, map, refl, ap, sym, ◌∙◌, subst, arith, inl, inr}
 use Rattle.std.specs.List.{slice_range, sum_by}
 use Rattle.std.proofs.lemmas.Bool.{cases_eq, cases_lt}
-use Rattle.std.proofs.lemmas.List.{get_or_read, get_or-map, get_or-set_other, get_or-set_same, length-drop, length-set, length-take-le, drop-set-add, drop-set-lt, take-set-le, take_more_set, append_assoc}
+use Rattle.std.proofs.lemmas.List.{get_or_read, get_or-map, get_or-set_other, get_or-set_same, length-drop, length-set, length-take-le, drop-set-add, drop-set-lt, take-set-le, take_more_set}
 use Rattle.std.proofs.lemmas.List.Sums.{sum_by_more}
 use Rattle.mz_model.specs.Groups.{Filling, IsCut, IsFilling, filling_of, groups_of, lists_upto, room_of}
 use Rattle.mz_num.specs.Places.{list_below}

@@ -7,6 +7,7 @@ pub mod ListLaws
 pub mod NeighbourLaws
 pub mod Products
 pub mod ScoreLaws
+pub mod ShareLaws
 pub mod TargetLaws
 pub mod TouchLaws
 pub mod ZoneLaws

@@ -1,10 +1,12 @@
 -- Many lists in one: where each starts among the items.
-use Rattle.std.specs.Prelude.{◌≡◌, ℕ, ◌+◌, ◌-◌, ◌<◌, ◌≤◌, List, [], ◌++◌, length, slice_index, slice_index_or, slice_range}
+use Rattle.std.specs.Prelude.{◌≡◌, ℕ, ◌+◌, ◌-◌, ◌<◌, ◌≤◌, List, [], ◌∷◌, ◌++◌, length}
+use Rattle.std.specs.Prelude.{slice_index, slice_index_or, slice_range, slice_set}
 use Rattle.mz_num.specs.Places.{list_below, values_at}
 
 -- the lists: each from its start up to the next one's
 abbrev pub groups_of : {X : Type 0} → List ℕ → List X → List (List X)
-groups_of starts items = list_below (length starts - 1) (λ k. slice_range items (slice_index starts k) (slice_index starts (k + 1)))
+groups_of starts items =
+    list_below (length starts - 1) (λ k. slice_range items (slice_index starts k) (slice_index starts (k + 1)))
 
 -- the starts rise, and the last one is the number of items
 pub record IsCut (starts : List ℕ) (count : ℕ) : Type 0 where
@@ -21,9 +23,23 @@ pub record Filling (X : Type 0) : Type 0 where
   pub lists : List (List X)
   pub room : List ℕ
 
+-- lists with no item yet, with room for so many items each
+abbrev pub unfilled : {X : Type 0} → List ℕ → Filling X
+unfilled {X} counts = record { lists = list_below (length counts) (λ _. []); room = counts }
+
+-- one item more in the list of a place
+abbrev pub pushed : {X : Type 0} → Filling X → ℕ → X → Filling X
+pushed {X} filling place item =
+    record filling { lists = slice_set filling.lists place (slice_index_or filling.lists place [] ++ item ∷ []) }
+
+-- one more at a place
+abbrev pub one_more : List ℕ → ℕ → List ℕ
+one_more counts place = slice_set counts place (slice_index counts place + 1)
+
 -- the lists so far: each from its start up to its end
 abbrev pub lists_upto : {X : Type 0} → List ℕ → List ℕ → List X → List (List X)
-lists_upto starts ends items = list_below (length ends) (λ k. slice_range items (slice_index starts k) (slice_index ends k))
+lists_upto starts ends items =
+    list_below (length ends) (λ k. slice_range items (slice_index starts k) (slice_index ends k))
 
 -- the room of each list: from its start up to the next one's
 abbrev pub room_of : List ℕ → ℕ → List ℕ
@@ -45,4 +61,6 @@ counts_with counts entries = list_below (length counts) (λ k. slice_index count
 
 -- the lists have room for more values
 abbrev pub HasRoom : {X : Type 0} → Filling X → List (ℕ × X) → Type 0
-HasRoom {X} filling entries = (k : ℕ) → k < length filling.lists → length (slice_index_or filling.lists k []) + length (values_at k entries) ≤ slice_index filling.room k
+HasRoom {X} filling entries =
+    (k : ℕ) → k < length filling.lists
+    → length (slice_index_or filling.lists k []) + length (values_at k entries) ≤ slice_index filling.room k

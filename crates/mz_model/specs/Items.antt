@@ -12,4 +12,7 @@ pub data Item : Type 0 where
 
 -- the unit, its neighbours, and the target rows for which it gains in some zone
 unfoldable pub items_of : Parts → ℕ → List Item
-items_of parts unit = unit_item unit ∷ (map (λ (neighbour : Neighbour). unit_item neighbour.unit) (neighbours_of parts unit) ++ map row_item (touched_rows parts unit))
+items_of parts unit =
+    unit_item unit
+    ∷ (map (λ (neighbour : Neighbour). unit_item neighbour.unit) (neighbours_of parts unit)
+    ++ map row_item (touched_rows parts unit))

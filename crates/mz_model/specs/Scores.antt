@@ -23,17 +23,26 @@ outer_term parts zones unit = edge_term_of parts (outer_at parts unit) (slice_in
 
 -- the boundary cost of a plan: the terms of all pairs, and those of the outer lengths
 unfoldable pub boundary_of_plan : Parts → List ℕ → ℕ
-boundary_of_plan parts zones = sum_by (pair_term parts zones) parts.edges + sum_below (unit_count parts) (outer_term parts zones)
+boundary_of_plan parts zones =
+    sum_by (pair_term parts zones) parts.edges + sum_below (unit_count parts) (outer_term parts zones)
 
 -- the penalty of a target row for which so much is held: its weight, by the part of its level that is missing;
 -- a row whose level is 0 has none
 unfoldable pub penalty_term_of : Parts → ℕ → ℕ → ℕ
-penalty_term_of parts row held = cond (nat_lt 0 (target_at parts row).level) (round ((target_at parts row).weight * shortfall_of parts row held) (target_at parts row).level) 0
+penalty_term_of parts row held =
+    let target = target_at parts row in
+    cond (nat_lt 0 target.level) (round (target.weight * shortfall_of parts row held) target.level) 0
 
 -- the penalty of a plan: that of all target rows
 unfoldable pub penalty_of_plan : Parts → List ℕ → ℕ
-penalty_of_plan parts zones = sum_below (target_count parts) (λ row. penalty_term_of parts row (held_of parts zones row))
+penalty_of_plan parts zones =
+    sum_below (target_count parts) (λ row. penalty_term_of parts row (held_of parts zones row))
 
 -- the score of a plan
 abbrev pub score_of_plan : Parts → List ℕ → Score
-score_of_plan parts zones = record { cost = cost_of_plan parts zones; boundary = boundary_of_plan parts zones; penalty = penalty_of_plan parts zones; total = cost_of_plan parts zones + boundary_of_plan parts zones + penalty_of_plan parts zones }
+score_of_plan parts zones = record {
+  cost = cost_of_plan parts zones;
+  boundary = boundary_of_plan parts zones;
+  penalty = penalty_of_plan parts zones;
+  total = cost_of_plan parts zones + boundary_of_plan parts zones + penalty_of_plan parts zones;
+}

@@ -1,5 +1,6 @@
 -- Target rows: what a plan holds for a row, how much it falls short, and when the row is met.
-use Rattle.std.specs.Prelude.{ℕ, ◌-◌, ◌*◌, ◌≤◌, Bool, cond, List, map, Option, None, Some, slice_index, ◌==◌, nat_le, nat_lt}
+use Rattle.std.specs.Prelude.{ℕ, ◌+◌, ◌-◌, ◌*◌, ◌≤◌, ◌==◌, Bool, cond, List, map, Option, None, Some}
+use Rattle.std.specs.Prelude.{nat_le, nat_lt, slice_index}
 use Rattle.mz_num.specs.Round.{round}
 use Rattle.mz_model.specs.declared.parts.Parts.{Parts}
 use Rattle.mz_model.specs.declared.touch.Touch.{Touch}
@@ -15,7 +16,14 @@ counted (Some own) amount fraction zone = cond (zone == own) amount 0
 
 -- what an amount of a row's feature counts for the row in a zone
 unfoldable pub gain_from : Parts → ℕ → ℕ → ℕ → ℕ
-gain_from parts row amount zone = counted (target_at parts row).zone amount (fraction_at parts zone (target_at parts row).feature) zone
+gain_from parts row amount zone =
+    let target = target_at parts row in
+    counted target.zone amount (fraction_at parts zone target.feature) zone
+
+-- what is held for a row once a unit that touches it went from one zone to another, where so much was held before
+abbrev pub held_after : Parts → Touch → ℕ → ℕ → ℕ → ℕ
+held_after parts touch held from to =
+    held + gain_from parts touch.row touch.amount to - gain_from parts touch.row touch.amount from
 
 -- a unit's amount of a row's feature
 unfoldable pub amount_for : Parts → ℕ → ℕ → ℕ

@@ -1,5 +1,5 @@
 -- What makes parts a problem: few enough things, lists that fit one another, and quantities within the limits.
-use Rattle.std.specs.Prelude.{◌≡◌, ℕ, ◌*◌, ◌<◌, ◌≤◌, ◌^◌, ◌≢◌, ◌⊎◌, None, List, length, slice_index, IsSomeAnd}
+use Rattle.std.specs.Prelude.{◌≡◌, ℕ, ◌*◌, ◌<◌, ◌≤◌, ◌^◌, ◌≢◌, None, List, length, slice_index, IsSomeAnd}
 use Rattle.std.specs.List.{All, AllPairs}
 use Rattle.mz_model.specs.declared.parts.Parts.{Parts}
 use Rattle.mz_model.specs.declared.parts.Target.{Target}
@@ -62,7 +62,8 @@ pub record IsInShape (parts : Parts) : Type 0 where
   pub outer : length parts.outer ≡ unit_count parts
   pub enough_rows : feature_count parts ≤ target_count parts
   pub overall_rows : (row : ℕ) → row < feature_count parts → IsOverallRow row (target_at parts row)
-  pub zone_rows : (row : ℕ) → feature_count parts ≤ row → row < target_count parts → IsZoneRow (zone_count parts) (feature_count parts) (target_at parts row)
+  pub zone_rows : (row : ℕ) → feature_count parts ≤ row → row < target_count parts
+      → IsZoneRow (zone_count parts) (feature_count parts) (target_at parts row)
   pub amounts : All (IsAmount (unit_count parts) (feature_count parts)) parts.amounts
   pub amounts_in_order : AllPairs IsBefore parts.amounts
   pub fractions : length parts.fractions ≡ zone_count parts * feature_count parts
@@ -74,7 +75,8 @@ pub record IsWithinLimits (parts : Parts) : Type 0 where
   pub pairs : All (λ edge. IsLength parts edge.2) parts.edges
   pub outer : All (IsLength parts) parts.outer
   pub amount : (feature : ℕ) → feature < feature_count parts → total_of parts.amounts feature ≤ 10 ^ 18
-  pub gain : (row : ℕ) → row < target_count parts → sum_below (unit_count parts) (λ unit. greatest_below (zone_count parts) (gain_of parts row unit)) ≤ 10 ^ 18
+  pub gain : (row : ℕ) → row < target_count parts
+      → sum_below (unit_count parts) (λ unit. greatest_below (zone_count parts) (gain_of parts row unit)) ≤ 10 ^ 18
   pub level : (row : ℕ) → row < target_count parts → (target_at parts row).level ≤ 10 ^ 18
   pub weight : (row : ℕ) → row < target_count parts → (target_at parts row).weight ≤ 10 ^ 18
 

@@ -3,12 +3,10 @@ ghost use Rattle.std.specs.Prelude.{◌≡◌, ◌+◌, ◌<◌, ◌≤◌, ◌=
 ghost use Rattle.std.specs.Int.{bit_at};
 ghost use Rattle.std.specs.List.{All};
 ghost use Rattle.mz_model.specs.Amounts.{holders_of};
-ghost use Rattle.mz_model.specs.Boundary.{neighbours_of};
-ghost use Rattle.mz_model.specs.Built.{greatest_part_of, touching};
+ghost use Rattle.mz_model.specs.Built.{greatest_part_of, neighbour_lists, touch_lists, touching};
 ghost use Rattle.mz_model.specs.Groups.{HasRoom, counts_with, filled};
 ghost use Rattle.mz_model.specs.Parts.{unit_count, zone_count, feature_count, target_count};
 ghost use Rattle.mz_num.specs.Places.{list_below, places_below};
-ghost use Rattle.mz_model.specs.Targets.{touches_of};
 ghost use Rattle.mz_model.specs.Valid.{IsInShape, IsValid};
 ghost use Rattle.mz_model.specs.Zones.{allowed_zones, counts_of, free_units};
 
@@ -19,6 +17,7 @@ use crate::holders::holders_by_feature;
 use crate::neighbour::Neighbour;
 use crate::parts::{Parts, Target};
 use crate::problem::Problem;
+use crate::shares::{are_narrow, shares_of};
 use crate::touch::Touch;
 use mz_num::NoMemory;
 use std::alloc::Global;
@@ -36,6 +35,8 @@ impl Problem {
         let features = parts.feature_ids.len() as u32;
         let holders = holders_by_feature(alloc, parts.amounts.as_slice(), features)?;
         let touches = touches_by_unit(alloc, &parts, &holders)?;
+        let shares = shares_of(alloc, &parts)?;
+        let narrow = are_narrow(&parts);
         Ok(Problem {
             parts,
             zones,
@@ -44,6 +45,8 @@ impl Problem {
             neighbours,
             holders,
             touches,
+            shares,
+            narrow,
         })
     }
 }
@@ -117,7 +120,7 @@ fn counts_of_free(
 /// The neighbours of each unit, with the lengths between.
 fn neighbours_by_unit(alloc: Global, parts: &Parts) -> Result<Groups<Neighbour>, NoMemory>
     requires { IsValid parts.now }
-    ensures { IfOk result (λ neighbours. neighbours ≡ list_below (unit_count parts.now) (neighbours_of parts.now)) }
+    ensures { IfOk result (λ neighbours. neighbours ≡ neighbour_lists parts.now) }
 {
     let counts = neighbour_counts(alloc, parts)?;
     let blank = Neighbour { unit: 0, length: 0 };
@@ -125,8 +128,20 @@ fn neighbours_by_unit(alloc: Global, parts: &Parts) -> Result<Groups<Neighbour>,
     let edges = parts.edges.as_slice();
     for (first, second, length) in edges {
         let length = *length;
-        lists.push(*first as usize, Neighbour { unit: *second, length });
-        lists.push(*second as usize, Neighbour { unit: *first, length });
+        lists.push(
+            *first as usize,
+            Neighbour {
+                unit: *second,
+                length,
+            },
+        );
+        lists.push(
+            *second as usize,
+            Neighbour {
+                unit: *first,
+                length,
+            },
+        );
     }
     Ok(lists.full())
 }
@@ -134,7 +149,7 @@ fn neighbours_by_unit(alloc: Global, parts: &Parts) -> Result<Groups<Neighbour>,
 /// How many neighbours each unit has.
 fn neighbour_counts(alloc: Global, parts: &Parts) -> Result<Vec<usize>, NoMemory>
     requires { IsValid parts.now }
-    ensures { IfOk result (λ counts. counts.items ≡ map length (list_below (unit_count parts.now) (neighbours_of parts.now))) }
+    ensures { IfOk result (λ counts. counts.items ≡ map length (neighbour_lists parts.now)) }
 {
     let mut counts = vec![in alloc; 0usize; parts.unit_ids.len()]?;
     let edges = parts.edges.as_slice();
@@ -153,7 +168,7 @@ fn touches_by_unit(
 ) -> Result<Groups<Touch>, NoMemory>
     requires valid { IsValid parts.now }
     requires holders { holders.now ≡ list_below (feature_count parts.now) (holders_of parts.now.amounts) }
-    ensures { IfOk result (λ touches. touches ≡ list_below (unit_count parts.now) (touches_of parts.now)) }
+    ensures { IfOk result (λ touches. touches ≡ touch_lists parts.now) }
 {
     let counts = touch_counts(alloc, parts, holders)?;
     let blank = Touch { row: 0, amount: 0 };
@@ -174,7 +189,7 @@ fn touch_counts(
 ) -> Result<Vec<usize>, NoMemory>
     requires valid { IsValid parts.now }
     requires holders { holders.now ≡ list_below (feature_count parts.now) (holders_of parts.now.amounts) }
-    ensures { IfOk result (λ counts. counts.items ≡ map length (list_below (unit_count parts.now) (touches_of parts.now))) }
+    ensures { IfOk result (λ counts. counts.items ≡ map length (touch_lists parts.now)) }
 {
     let mut counts = vec![in alloc; 0usize; parts.unit_ids.len()]?;
     for row in 0..parts.targets.len() as u32 {
@@ -212,7 +227,13 @@ fn add_touches(row: u32, part: u64, holders: &[(u32, u64)], lists: &mut Filling<
 {
     for (unit, amount) in holders {
         if *amount as u128 * part as u128 >= 500_000 {
-            lists.push(*unit as usize, Touch { row, amount: *amount });
+            lists.push(
+                *unit as usize,
+                Touch {
+                    row,
+                    amount: *amount,
+                },
+            );
         }
     }
 }

@@ -1,5 +1,6 @@
 //! Counts by place.
-ghost use Rattle.std.specs.Prelude.{◌≡◌, ◌+◌, ◌<◌, IfOk, length, slice_index, slice_set};
+ghost use Rattle.std.specs.Prelude.{◌≡◌, ◌<◌, IfOk, length};
+ghost use Rattle.mz_model.specs.Groups.{one_more};
 
 use mz_num::NoMemory;
 
@@ -7,7 +8,7 @@ use mz_num::NoMemory;
 #[inline]
 pub(crate) fn count_one(counts: &mut Vec<usize>, place: usize) -> Result<(), NoMemory>
     requires { place < length counts.old.items }
-    ensures { IfOk result (λ _. counts.new.items ≡ slice_set counts.old.items place (slice_index counts.old.items place + 1)) }
+    ensures { IfOk result (λ _. counts.new.items ≡ one_more counts.old.items place) }
 {
     let Some(count) = counts[place].checked_add(1) else {
         return Err(NoMemory);

@@ -1,6 +1,6 @@
 //! Lists by place that are filled in any order, once their lengths were counted.
-ghost use Rattle.std.specs.Prelude.{◌≡◌, ◌<◌, ◌+◌, ◌++◌, ◌∷◌, [], List, IfOk, length, map, slice_index, slice_index_or, slice_set};
-ghost use Rattle.mz_num.specs.Places.{list_below};
+ghost use Rattle.std.specs.Prelude.{◌≡◌, ◌<◌, [], IfOk, length, map, slice_index, slice_index_or};
+ghost use Rattle.mz_model.specs.Groups.{pushed, unfilled};
 
 use crate::groups::Groups;
 use mz_num::NoMemory;
@@ -32,7 +32,7 @@ impl<T: Copy> Model for Filling<T> {
 impl<T: Copy> Filling<T> {
     /// Empty lists with room for so many items each; `blank` stands where no item is yet.
     pub fn new(alloc: Global, counts: &[usize], blank: T) -> Result<Filling<T>, NoMemory>
-        ensures { IfOk result (λ filling. filling ≡ record { lists = list_below (length counts.now) (λ _. []); room = counts.now }) }
+        ensures { IfOk result (λ filling. filling ≡ unfilled counts.now) }
     {
         let mut ends = Vec::new(alloc);
         let mut total: usize = 0;
@@ -58,7 +58,7 @@ impl<T: Copy> Filling<T> {
     pub fn push(&mut self, place: usize, item: T)
         requires inside { place < length self.old.lists }
         requires room { length (slice_index_or self.old.lists place []) < slice_index self.old.room place }
-        ensures { self.new ≡ record self.old { lists = slice_set self.old.lists place (slice_index_or self.old.lists place [] ++ item ∷ []) } }
+        ensures { self.new ≡ pushed self.old place item }
     {
         let end = self.ends[place];
         self.items[end] = item;

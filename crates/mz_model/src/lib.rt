@@ -15,6 +15,7 @@ mod plan;
 mod problem;
 mod product;
 mod score;
+mod shares;
 mod touch;
 
 pub use groups::Groups;

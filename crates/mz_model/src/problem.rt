@@ -1,11 +1,12 @@
 //! The problem, and what it is made of by place.
-ghost use Rattle.std.specs.Prelude.{◌≡◌, ◌+◌, ◌*◌, ◌%◌, ◌<◌, ◌≤◌, ◌^◌, IfOk, IsTrue, length, slice_index, slice_index_or, slice_get, Some, []};
-ghost use Rattle.std.specs.Prelude.{◌==◌};
+ghost use Rattle.std.specs.Prelude.{◌≡◌, ◌%◌, ◌<◌, ◌≤◌, ◌^◌, ◌==◌, IsTrue, Some, []};
+ghost use Rattle.std.specs.Prelude.{length, slice_index, slice_index_or, slice_get};
 ghost use Rattle.std.specs.List.{All, position_or_len};
 ghost use Rattle.mz_model.specs.Amounts.{holders_of};
 ghost use Rattle.mz_model.specs.Boundary.{IsLength, as_neighbour, edge_term_of, neighbours_of};
-ghost use Rattle.mz_model.specs.Parts.{unit_count, zone_count, feature_count, target_count, cost_at, fraction_at, outer_at, rate_at, target_at};
-ghost use Rattle.mz_model.specs.Targets.{gain_from, gain_of, touched_rows, touches_of};
+ghost use Rattle.mz_model.specs.Parts.{unit_count, zone_count, feature_count, target_count};
+ghost use Rattle.mz_model.specs.Parts.{cost_at, fraction_at, outer_at, rate_at, target_at};
+ghost use Rattle.mz_model.specs.Targets.{gain_from, gain_of, held_after, touched_rows, touches_of};
 ghost use Rattle.mz_model.specs.Scores.{penalty_term_of};
 ghost use Rattle.mz_num.specs.ZoneSet.{IsZoneSet};
 ghost use Rattle.mz_model.specs.Valid.{IsPair, IsValid};
@@ -14,7 +15,7 @@ ghost use Rattle.mz_model.specs.Zones.{allowed_zones, is_allowed, free_units, co
 use crate::groups::Groups;
 use crate::neighbour::Neighbour;
 use crate::parts::{Parts, Target};
-use crate::product::{by_millionths, part_of};
+use crate::product::{by_millionths, narrow_part, wide_part};
 use crate::touch::Touch;
 use std::marker::Model;
 
@@ -32,6 +33,11 @@ pub struct Problem {
     pub(crate) holders: Groups<(u32, u64)>,
     /// The target rows for which each unit gains in some zone, with its amount of their feature.
     pub(crate) touches: Groups<Touch>,
+    /// The part of a feature's amounts that counts in a zone, in millionths, at `feature * zones + zone`:
+    /// what one move asks of it lies side by side.
+    pub(crate) shares: Vec<u64>,
+    /// Whether the products of every penalty fit 64 bits.
+    pub(crate) narrow: bool,
 }
 
 impl Model for Problem {
@@ -43,7 +49,9 @@ impl Model for Problem {
 
     ghost view = { λ a. a.parts };
 
-    ghost invariant = { λ a. AreListsOf a.parts a.zones a.free.items a.counts.items a.neighbours a.holders a.touches };
+    ghost invariant = { λ a.
+        AreListsOf a.parts a.zones a.free.items a.counts.items a.neighbours a.holders a.touches
+        a.shares.items a.narrow };
 }
 
 impl Problem {
@@ -278,7 +286,10 @@ impl Problem {
         ensures gain { result ≡ gain_of self.now t unit zone }
         ensures small { result ≤ 10 ^ 18 }
     {
-        match self.touches(unit).binary_search_by_key(&t, |touch| touch.row) {
+        match self
+            .touches(unit)
+            .binary_search_by_key(&t, |touch| touch.row)
+        {
             Ok(i) => self.touched_gain(unit, i as u32, zone),
             Err(_) => 0,
         }
@@ -339,8 +350,7 @@ impl Problem {
         requires feature { feature < feature_count self.now }
         ensures { result ≡ fraction_at self.now zone feature }
     {
-        self.parts.fractions.as_slice()[zone as usize * self.parts.feature_ids.len()
-            + feature as usize]
+        self.shares[feature as usize * self.parts.zone_ids.len() + zone as usize]
     }
 
     /// The penalty of a target row for which so much is held, in ten-thousandths, at most 10^18: the
@@ -356,7 +366,11 @@ impl Problem {
         if missing == 0 {
             return 0;
         }
-        part_of(target.weight, missing, target.level)
+        if self.narrow {
+            narrow_part(target.weight, missing, target.level)
+        } else {
+            wide_part(target.weight, missing, target.level)
+        }
     }
 
     /// The zone that stands `shift` places on from a unit's zone in its allowed zones, going round.
@@ -409,6 +423,23 @@ impl Problem {
             Some(own) => if zone == own { amount } else { 0 },
             None => by_millionths(amount, self.fraction(zone, target.feature)),
         }
+    }
+
+    /// What is held for a target row of which so much was held, once a unit that touches it went from one
+    /// zone to another, in ten-thousandths.
+    #[inline]
+    pub fn moved_total(&self, touch: Touch, held: u64, from: u8, to: u8) -> u64
+        requires row { touch.row < target_count self.now }
+        requires from { from < zone_count self.now }
+        requires to { to < zone_count self.now }
+        requires held { held ≤ 10 ^ 18 }
+        requires lost { gain_from self.now touch.row touch.amount from ≤ 10 ^ 18 }
+        requires gained { gain_from self.now touch.row touch.amount to ≤ 10 ^ 18 }
+        ensures { result ≡ held_after self.now touch held from to }
+    {
+        let gained = self.gain_from(touch.row, touch.amount, to);
+        let lost = self.gain_from(touch.row, touch.amount, from);
+        (held + gained).saturating_sub(lost)
     }
 }
 

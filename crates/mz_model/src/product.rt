@@ -1,5 +1,5 @@
 //! Products that are rounded: by a number of millionths, and by the part of a level.
-ghost use Rattle.std.specs.Prelude.{◌≡◌, ◌<◌, ◌≤◌, ◌*◌, ◌^◌};
+ghost use Rattle.std.specs.Prelude.{◌≡◌, ◌<◌, ◌≤◌, ◌+◌, ◌*◌, ◌^◌};
 ghost use Rattle.mz_num.specs.Round.{round};
 
 use mz_num::round_half;
@@ -17,9 +17,10 @@ pub fn by_millionths(amount: u64, millionths: u64) -> u64
     }
 }
 
-/// `weight` by `missing / level`, rounded half up, in 64 bits where the product fits.
+/// `weight` by `missing / level`, rounded half up, where the product of weight and level fits 64 bits.
 #[inline]
-pub fn part_of(weight: u64, missing: u64, level: u64) -> u64
+pub fn narrow_part(weight: u64, missing: u64, level: u64) -> u64
+    requires narrow { 2 * (weight * level) + level < 2 ^ 64 }
     requires weight { weight ≤ 10 ^ 18 }
     requires level { level ≤ 10 ^ 18 }
     requires some_level { 0 < level }
@@ -27,8 +28,18 @@ pub fn part_of(weight: u64, missing: u64, level: u64) -> u64
     ensures part { result ≡ round (weight * missing) level }
     ensures small { result ≤ 10 ^ 18 }
 {
-    match weight.checked_mul(missing) {
-        Some(product) if product <= (u64::MAX - level) / 2 => (2 * product + level) / (2 * level),
-        _ => round_half(weight as u128 * missing as u128, level as u128) as u64,
-    }
+    (2 * (weight * missing) + level) / (2 * level)
+}
+
+/// `weight` by `missing / level`, rounded half up.
+#[inline]
+pub fn wide_part(weight: u64, missing: u64, level: u64) -> u64
+    requires weight { weight ≤ 10 ^ 18 }
+    requires level { level ≤ 10 ^ 18 }
+    requires some_level { 0 < level }
+    requires part { missing ≤ level }
+    ensures part { result ≡ round (weight * missing) level }
+    ensures small { result ≤ 10 ^ 18 }
+{
+    round_half(weight as u128 * missing as u128, level as u128) as u64
 }

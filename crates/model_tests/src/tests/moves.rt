@@ -4,7 +4,9 @@ ghost use Rattle.mz_model.specs.Parts.{unit_count};
 ghost use Rattle.mz_model.specs.Plans.{IsLegalPlan};
 ghost use Rattle.mz_delta.specs.Reading.{IsWellFormed};
 
-use mz_delta::{Filled, Judged, Reading, judge, judge_zone, read_plan, totals_of};
+use mz_delta::{
+    Filled, Judged, Reading, judge, judge_from, judge_zone, prepare, read_plan, totals_of,
+};
 use mz_draw::Draw;
 use mz_examples::{build_lone_unit, build_three_units, build_three_zones};
 use mz_model::{Plan, Problem};
@@ -100,6 +102,39 @@ fn by_stale(alloc: Global, problem: &Problem, zones: &[u8], unit: u32, zone: u8)
     Some(said(&judged))
 }
 
+/// The moves of a unit to two zones, each judged from what holds before both.
+fn by_before(
+    alloc: Global,
+    problem: &Problem,
+    zones: &[u8],
+    unit: u32,
+    first: u8,
+    second: u8,
+) -> Option<(Said, Said)> {
+    if unit >= problem.units() {
+        return None;
+    }
+    if !problem.is_allowed(unit, first) || !problem.is_allowed(unit, second) {
+        return None;
+    }
+    let reading = reading_of(alloc, problem, zones, unit)?;
+    let mut judged = Judged::room(alloc, problem).ok()?;
+    let before = prepare(problem, &reading);
+    judge_from(problem, &reading, &before, first, &mut judged);
+    let one = said(&judged);
+    judge_from(problem, &reading, &before, second, &mut judged);
+    Some((one, said(&judged)))
+}
+
+fn by_before_in_three_zones(
+    alloc: Global,
+    first: u8,
+    second: u8,
+) -> Result<Option<(Said, Said)>, NoMemory> {
+    let problem = build_three_zones(alloc)?;
+    Ok(by_before(alloc, &problem, &[2, 1, 0], 2, first, second))
+}
+
 fn by_draw_in_three_units(
     alloc: Global,
     zones: &[u8],
@@ -149,27 +184,50 @@ fn a_draw_meets_the_target(rt: HostRuntime) -> Result<(), Fail> {
     };
     let named = (4, 9, 2, 0, 1, 77);
     let said = (300_000, 70_000, -600_000, -230_000, 40_000);
-    assert_eq!(rt; by_draw_in_three_units(rt.alloc(), &[0, 0, 0], draw)?, Some((named, said)));
+    assert_eq!(rt;
+        by_draw_in_three_units(rt.alloc(), &[0, 0, 0], draw)?,
+        Some((named, said))
+    );
     Ok(())
 }
 
 #[test]
 fn the_second_unit_joins_the_first(rt: HostRuntime) -> Result<(), Fail> {
     let said = (200_000, 20_000, -300_000, -80_000, 50_000);
-    assert_eq!(rt; by_zone_in_three_units(rt.alloc(), &[1, 0, 0], 1, 1)?, Some(said));
+    assert_eq!(rt;
+        by_zone_in_three_units(rt.alloc(), &[1, 0, 0], 1, 1)?,
+        Some(said)
+    );
     Ok(())
 }
 
 #[test]
 fn both_rows_of_three_zones_are_met(rt: HostRuntime) -> Result<(), Fail> {
     let said = (300_000, 0, -375_000, -75_000, 135_000);
-    assert_eq!(rt; by_zone_in_three_zones(rt.alloc(), &[2, 1, 0], 2, 2)?, Some(said));
+    assert_eq!(rt;
+        by_zone_in_three_zones(rt.alloc(), &[2, 1, 0], 2, 2)?,
+        Some(said)
+    );
+    Ok(())
+}
+
+#[test]
+fn two_zones_are_judged_from_one_start(rt: HostRuntime) -> Result<(), Fail> {
+    let halved = (300_000, -70_000, -75_000, 155_000, 75_000);
+    let whole = (300_000, 0, -375_000, -75_000, 135_000);
+    assert_eq!(rt;
+        by_before_in_three_zones(rt.alloc(), 1, 2)?,
+        Some((halved, whole))
+    );
     Ok(())
 }
 
 #[test]
 fn a_lone_unit_costs_its_cost(rt: HostRuntime) -> Result<(), Fail> {
-    assert_eq!(rt; by_zone_alone(rt.alloc(), 1)?, Some((100_000, 0, 0, 100_000, 0)));
+    assert_eq!(rt;
+        by_zone_alone(rt.alloc(), 1)?,
+        Some((100_000, 0, 0, 100_000, 0))
+    );
     Ok(())
 }
 

@@ -1,8 +1,7 @@
-use Rattle.std.proofs.Common.{◌≡◌, ◌<◌, ◌∙◌, ap, ℕ, length, map, take, arith}
+use Rattle.std.proofs.Common.{◌<◌, ◌∙◌, ap, ℕ, map, take, arith}
 use Rattle.std.proofs.lemmas.List.Elements.{All-get_or}
-use Rattle.mz_model.specs.Amounts.{holder_of, holders_of}
+use Rattle.mz_model.specs.Amounts.{holder_of}
 use Rattle.mz_model.specs.Groups.{Filling}
-use Rattle.mz_num.specs.Places.{list_below}
 use Rattle.mz_model.proofs.BuildLaws.{holders-done, holders-full, holders-more, holders-open, holders-start, length-empty-filled}
 use Rattle.mz_model.proofs.holders.holders_by_feature.Goals as goal
 

@@ -1,4 +1,4 @@
-use Rattle.std.proofs.Common.{rules, ℕ, ◌∙◌, ap, sym}
+use Rattle.std.proofs.Common.{rules, ◌∙◌, ap, sym}
 use Rattle.std.proofs.lemmas.List.Sorted.{answers_always}
 use Rattle.mz_model.specs.declared.touch.Touch.{Touch}
 use Rattle.mz_model.specs.Targets.{gain_of}

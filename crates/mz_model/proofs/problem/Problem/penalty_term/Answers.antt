@@ -9,9 +9,16 @@ returns-then-missing-eq0-clause-term c =
     let missing : shortfall_of c.args.self.now c.args.t c.args.held ≡ 0 = omega (arith, c.saturating_sub-missing.ensures, c.if-missing-eq0.true, shortfall_of-is c.args.self.now c.args.t c.args.held c.target-target.result c.target-target.ensures.row) in
     sym (penalty_term_of-met c.args.self.now c.args.t c.args.held missing)
 
-pub returns-clause-term : goal.returns-clause-term
-returns-clause-term c =
+pub returns-then-self-clause-term : goal.returns-then-self-clause-term
+returns-then-self-clause-term c =
     let missing : c.saturating_sub-missing.result ≡ shortfall_of c.args.self.now c.args.t c.args.held = omega (arith, c.saturating_sub-missing.ensures, shortfall_of-is c.args.self.now c.args.t c.args.held c.target-target.result c.target-target.ensures.row) in
     let level : 0 < c.target-target.result.level = omega (arith, c.saturating_sub-missing.ensures, c.if-missing-eq0.false) in
-    c.part_of.ensures.part ∙ ap (λ n. round (c.target-target.result.weight * n) c.target-target.result.level) missing
+    c.narrow_part.ensures.part ∙ ap (λ n. round (c.target-target.result.weight * n) c.target-target.result.level) missing
+    ∙ sym (penalty_term_of-part c.args.self.now c.args.t c.args.held c.target-target.result c.target-target.ensures.row level)
+
+pub returns-else-self-clause-term : goal.returns-else-self-clause-term
+returns-else-self-clause-term c =
+    let missing : c.saturating_sub-missing.result ≡ shortfall_of c.args.self.now c.args.t c.args.held = omega (arith, c.saturating_sub-missing.ensures, shortfall_of-is c.args.self.now c.args.t c.args.held c.target-target.result c.target-target.ensures.row) in
+    let level : 0 < c.target-target.result.level = omega (arith, c.saturating_sub-missing.ensures, c.if-missing-eq0.false) in
+    c.wide_part.ensures.part ∙ ap (λ n. round (c.target-target.result.weight * n) c.target-target.result.level) missing
     ∙ sym (penalty_term_of-part c.args.self.now c.args.t c.args.held c.target-target.result c.target-target.ensures.row level)

@@ -1,11 +1,11 @@
 use Rattle.std.proofs.Common.{◌≡◌, ◌+◌, ◌*◌, ◌^◌, ◌≤◌}
 use Rattle.mz_num.specs.Places.{sum_below}
-use Rattle.mz_delta.proofs.AroundLaws.{touched_penalty}
-use Rattle.mz_delta.proofs.neighbourhood.penalty_change.Given as goal
+use Rattle.mz_delta.specs.Move.{neighbour_term}
+use Rattle.mz_delta.proofs.boundary.boundary_change.Given as goal
 
 abbrev pub invariant-loop-i : goal.invariant-loop-i
 invariant-loop-i l = record {
-  change : l.after + sum_below l.i (touched_penalty l.problem l.unit l.old) ≡ l.before + sum_below l.i (touched_penalty l.problem l.unit l.new);
+  change : l.after + sum_below l.i (neighbour_term l.problem l.reading l.reading.zone) ≡ l.before + sum_below l.i (neighbour_term l.problem l.reading l.zone);
   before_small : l.before ≤ l.i * 10 ^ 18;
   after_small : l.after ≤ l.i * 10 ^ 18;
 }
