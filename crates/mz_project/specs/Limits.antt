@@ -86,7 +86,7 @@ cost_limits params region =
     ∷ fault_above Rate (rates_are_above (rates_of params region))
     ∷ fault_above Boundary (lengths_are_above region.boundaries.bounds)
     ∷ fault_above Edge
-      (terms_are_above (rates_of params region) region.boundaries.bounds.edges region.boundaries.bounds.outer)
+    (terms_are_above (rates_of params region) region.boundaries.bounds.edges region.boundaries.bounds.outer)
     ∷ []
 
 -- the limits of amounts and target rows in their order

@@ -23,7 +23,7 @@ pub record AreCostsWithin (params : Params) (region : Region) : Type 0 where
   pub rates : rates_are_above (rates_of params region) ≡ false
   pub lengths : lengths_are_above region.boundaries.bounds ≡ false
   pub terms :
-    terms_are_above (rates_of params region) region.boundaries.bounds.edges region.boundaries.bounds.outer ≡ false
+      terms_are_above (rates_of params region) region.boundaries.bounds.edges region.boundaries.bounds.outer ≡ false
 
 pub record AreCostNumbers (params : Params) (region : Region) (numbers : CostNumbers) : Type 0 where
   pub within : AreCostsWithin params region

@@ -10,7 +10,11 @@ use mz_tables::RowFault;
 use std::alloc::Global;
 
 /// Why a row of a table is refused.
-pub(crate) fn row_fault_text(alloc: Global, which: Which, fault: RowFault) -> Result<Vec<u8>, NoMemory>
+pub(crate) fn row_fault_text(
+    alloc: Global,
+    which: Which,
+    fault: RowFault,
+) -> Result<Vec<u8>, NoMemory>
     ensures { IfOk result (λ text. text.items ≡ word_of_file which ++ codes ": line " ++ row_text which fault) }
 {
     let mut text = joined(alloc, file_word(which), ": line ")?;

@@ -10,7 +10,11 @@ use mz_tables::TableFault;
 use std::alloc::Global;
 
 /// Why a table is refused.
-pub(crate) fn table_fault_text(alloc: Global, which: Which, fault: TableFault) -> Result<Vec<u8>, NoMemory>
+pub(crate) fn table_fault_text(
+    alloc: Global,
+    which: Which,
+    fault: TableFault,
+) -> Result<Vec<u8>, NoMemory>
     ensures { IfOk result (λ text. text.items ≡ word_of_file which ++ codes ": " ++ table_text which fault) }
 {
     let mut text = joined(alloc, file_word(which), ": ")?;

@@ -15,5 +15,5 @@ unfolding rates_are_above
 returns c =
     let narrow = rw c.in-Some.is at c.in_ok-rates-2.ensures in
     let same = narrow.0 ∙ c.deref.ensures.value ∙ c.in_ok-rates.ensures.each
-        ∙ ap (map (rate c.args.params.now.blm)) c.as_slice.ensures in
+    ∙ ap (map (rate c.args.params.now.blm)) c.as_slice.ensures in
     (numbers_within _ _ same narrow.1, c.new.ensures ∙ same)
