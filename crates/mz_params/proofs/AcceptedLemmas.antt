@@ -9,35 +9,34 @@ use Rattle.mz_num.specs.Digits.{digits_number}
 use Rattle.mz_num.specs.NumberText.{signed_of, signed_in, signed_answer, has_minus, behind_sign}
 use Rattle.mz_num.specs.declared.fault.NumFault.{NumFault}
 use Rattle.mz_num.specs.declared.fault.NumFault.TheVariants.{TooLarge}
-use Rattle.mz_params.specs.declared.value.Refusal.TheVariants.{LeftOut}
 use Rattle.mz_params.specs.declared.key.Key.{Key}
 use Rattle.mz_params.specs.declared.key.Key.TheVariants.{AvailableZone, Blm, CoolFac, Prop, MissLevel, NumReps, NumItns, NumTemp, SaveRun, SaveBest, SaveSummary, SaveTargMet, SaveSumSoln, SaveTurns, RandSeed, RunMode}
 use Rattle.mz_params.specs.declared.fault.ParamFault.{ParamFault}
+use Rattle.mz_params.specs.declared.fault.ParamFault.TheVariants.{LeftOut}
 use Rattle.mz_params.specs.declared.params.Params.{Params}
 use Rattle.mz_params.specs.KeyLine.{KeyLine}
-use Rattle.mz_params.specs.KeyKind.{least_of, greatest_of}
 use Rattle.mz_params.specs.Lines.{value_of}
 use Rattle.mz_params.specs.Value.{whole_value, millionths_value, seed_value, seed_from, mode_value, mode_from, first_word}
 use Rattle.mz_params.specs.Given.{read_or, whole_at, millionths_at, seed_of, mode_of, params_of}
 use Rattle.mz_params.specs.ParamFile.{fault_where, missing_fault, limit_fault, IsAccepted}
-use Rattle.mz_params.proofs.ValueLemmas.{whole_value-range, millionths_value-range}
+use Rattle.mz_params.proofs.ValueLemmas.{IsTaken, whole_value-taken, millionths_value-taken}
 
 -- numbers that were read or are the default are in the range of their key
-read_range : (least most default : ℕ) (given : Option (List ℕ)) → least ≤ default → default ≤ most → (least ≤ read_or default (whole_value least most) given) × (read_or default (whole_value least most) given ≤ most)
-read_range least most default None low high = (low, high)
-read_range least most default (Some text) low high = whole_value-range least most default text low high
+read_whole-taken : (key : Key) (default : ℕ) (given : Option (List ℕ)) → IsTaken key default → IsTaken key (read_or default (whole_value key) given)
+read_whole-taken key default None taken = taken
+read_whole-taken key default (Some text) taken = whole_value-taken key default text taken
 
-whole_at-range : (entries : List KeyLine) (key : Key) (default : ℕ) → least_of key ≤ default → default ≤ greatest_of key → (least_of key ≤ whole_at entries key default) × (whole_at entries key default ≤ greatest_of key)
+whole_at-taken : (entries : List KeyLine) (key : Key) (default : ℕ) → IsTaken key default → IsTaken key (whole_at entries key default)
 unfolding whole_at
-whole_at-range entries key default low high = read_range (least_of key) (greatest_of key) default (value_of key entries) low high
+whole_at-taken entries key default taken = read_whole-taken key default (value_of key entries) taken
 
-read_most : (least most default : ℕ) (given : Option (List ℕ)) → least ≤ default → default ≤ most → read_or default (millionths_value least most) given ≤ most
-read_most least most default None low high = high
-read_most least most default (Some text) low high = (millionths_value-range least most default text low high).1
+read_millionths-taken : (key : Key) (default : ℕ) (given : Option (List ℕ)) → IsTaken key default → IsTaken key (read_or default (millionths_value key) given)
+read_millionths-taken key default None taken = taken
+read_millionths-taken key default (Some text) taken = millionths_value-taken key default text taken
 
-millionths_at-range : (entries : List KeyLine) (key : Key) (default : ℕ) → least_of key ≤ default → default ≤ greatest_of key → millionths_at entries key default ≤ greatest_of key
+millionths_at-taken : (entries : List KeyLine) (key : Key) (default : ℕ) → IsTaken key default → IsTaken key (millionths_at entries key default)
 unfolding millionths_at
-millionths_at-range entries key default low high = read_most (least_of key) (greatest_of key) default (value_of key entries) low high
+millionths_at-taken entries key default taken = read_millionths-taken key default (value_of key entries) taken
 
 -- a seed is at most 2147483647
 abbrev IsSmall : Result ℤ NumFault → Type 0
@@ -61,16 +60,16 @@ small_signed : (text : List ℕ) → IsSmall (signed_of text)
 unfolding signed_of
 small_signed text = small_in (trimmed text)
 
-small_seed : (r : Result ℤ NumFault) → IsSmall r → IfSome (result_unwrap_or (seed_from r) None) (λ s. s ≤ 2147483647)
+small_seed : (r : Result ℤ NumFault) → IsSmall r → IfSome (result_unwrap_or (seed_from RandSeed r) None) (λ s. s ≤ 2147483647)
 small_seed (Err fault) small = tt
 small_seed (Ok (pos n)) small = small
 small_seed (Ok (negsuc n)) small = tt
 
-small_seed_value : (text : List ℕ) → IfSome (result_unwrap_or (seed_value text) None) (λ s. s ≤ 2147483647)
+small_seed_value : (text : List ℕ) → IfSome (result_unwrap_or (seed_value RandSeed text) None) (λ s. s ≤ 2147483647)
 unfolding seed_value
 small_seed_value text = small_seed (signed_of (first_word text)) (small_signed (first_word text))
 
-seed_given : (given : Option (List ℕ)) → IfSome (read_or None seed_value given) (λ s. s ≤ 2147483647)
+seed_given : (given : Option (List ℕ)) → IfSome (read_or None (seed_value RandSeed) given) (λ s. s ≤ 2147483647)
 seed_given None = tt
 seed_given (Some text) = small_seed_value text
 
@@ -88,16 +87,16 @@ mode_named n e = elim (or_cases (eqb n 1 || eqb n 4) (eqb n 6) e) [
   | inr six ↦ inr (inr (eqb-true n 6 six))
 ]
 
-mode_result : (r : Result ℤ NumFault) → IsMode (result_unwrap_or (mode_from r) 1)
+mode_result : (r : Result ℤ NumFault) → IsMode (result_unwrap_or (mode_from RunMode r) 1)
 mode_result (Err fault) = inl refl
 mode_result (Ok (negsuc n)) = inl refl
-mode_result (Ok (pos n)) = cond_both (eqb n 1 || eqb n 4 || eqb n 6) (Ok n) (Err LeftOut) (λ r. IsMode (result_unwrap_or r 1)) (mode_named n) (λ other. inl refl)
+mode_result (Ok (pos n)) = cond_both (eqb n 1 || eqb n 4 || eqb n 6) (Ok n) (Err (LeftOut RunMode)) (λ r. IsMode (result_unwrap_or r 1)) (mode_named n) (λ other. inl refl)
 
-mode_text : (text : List ℕ) → IsMode (result_unwrap_or (mode_value text) 1)
+mode_text : (text : List ℕ) → IsMode (result_unwrap_or (mode_value RunMode text) 1)
 unfolding mode_value
 mode_text text = mode_result (signed_of (first_word text))
 
-mode_given : (given : Option (List ℕ)) → IsMode (read_or 1 mode_value given)
+mode_given : (given : Option (List ℕ)) → IsMode (read_or 1 (mode_value RunMode) given)
 mode_given None = inl refl
 mode_given (Some text) = mode_text text
 
@@ -145,25 +144,25 @@ accepted_params entries missing limit =
     record {
       units = full p.units named.0;
       features_with_amounts = together p.features p.amounts named.1 named.2;
-      available = (whole_at-range entries AvailableZone 1 (omega arith) (omega arith)).1;
-      blm = millionths_at-range entries Blm 0 (omega arith) (omega arith);
-      prop = millionths_at-range entries Prop 0 (omega arith) (omega arith);
-      miss_level = millionths_at-range entries MissLevel 1000000 (omega arith) (omega arith);
+      available = (whole_at-taken entries AvailableZone 1 (omega arith, omega arith)).1;
+      blm = (millionths_at-taken entries Blm 0 (omega arith, omega arith)).1;
+      prop = (millionths_at-taken entries Prop 0 (omega arith, omega arith)).1;
+      miss_level = (millionths_at-taken entries MissLevel 1000000 (omega arith, omega arith)).1;
       seed = seed_of-range entries;
-      some_reps = (whole_at-range entries NumReps 1 (omega arith) (omega arith)).0;
-      reps = (whole_at-range entries NumReps 1 (omega arith) (omega arith)).1;
-      iterations = (whole_at-range entries NumItns 0 (omega arith) (omega arith)).1;
-      some_levels = (whole_at-range entries NumTemp 1 (omega arith) (omega arith)).0;
-      levels = (whole_at-range entries NumTemp 1 (omega arith) (omega arith)).1;
+      some_reps = (whole_at-taken entries NumReps 1 (omega arith, omega arith)).0;
+      reps = (whole_at-taken entries NumReps 1 (omega arith, omega arith)).1;
+      iterations = (whole_at-taken entries NumItns 0 (omega arith, omega arith)).1;
+      some_levels = (whole_at-taken entries NumTemp 1 (omega arith, omega arith)).0;
+      levels = (whole_at-taken entries NumTemp 1 (omega arith, omega arith)).1;
       mode = mode_of-one entries;
-      save_run = (whole_at-range entries SaveRun 0 (omega arith) (omega arith)).1;
-      save_best = (whole_at-range entries SaveBest 0 (omega arith) (omega arith)).1;
-      save_summary = (whole_at-range entries SaveSummary 0 (omega arith) (omega arith)).1;
-      save_missing = (whole_at-range entries SaveTargMet 0 (omega arith) (omega arith)).1;
-      save_summed = (whole_at-range entries SaveSumSoln 0 (omega arith) (omega arith)).1;
-      save_turns = (whole_at-range entries SaveTurns 0 (omega arith) (omega arith)).1;
+      save_run = (whole_at-taken entries SaveRun 0 (omega arith, omega arith)).1;
+      save_best = (whole_at-taken entries SaveBest 0 (omega arith, omega arith)).1;
+      save_summary = (whole_at-taken entries SaveSummary 0 (omega arith, omega arith)).1;
+      save_missing = (whole_at-taken entries SaveTargMet 0 (omega arith, omega arith)).1;
+      save_summed = (whole_at-taken entries SaveSumSoln 0 (omega arith, omega arith)).1;
+      save_turns = (whole_at-taken entries SaveTurns 0 (omega arith, omega arith)).1;
       proposals = ltb-false 1000000000 (p.reps * p.iterations) limits.0;
-      cool_in_range = millionths_at-range entries CoolFac 1000000 (omega arith) (omega arith);
+      cool_in_range = (millionths_at-taken entries CoolFac 1000000 (omega arith, omega arith)).1;
       cool = cooled p.start p.cool limits.1;
       turns = turned p.save_turns (p.reps * p.iterations) limits.2;
     }

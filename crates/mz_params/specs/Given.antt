@@ -4,49 +4,54 @@ use Rattle.std.specs.Option.{unwrap_or}
 use Rattle.std.specs.Result.{result_unwrap_or}
 use Rattle.mz_num.specs.Limits.{million}
 use Rattle.mz_params.specs.declared.key.Key.{Key}
-use Rattle.mz_params.specs.declared.key.Key.TheVariants.{InputDir, OutputDir, ScenName, PuName, FeatName, PuVsFeatName, BoundName, ZonesName, CostsName, ZoneCostName, ZoneBoundCostName, ZoneContribName, ZoneTargetName, PuLockName, PuZoneName, AvailableZone, Blm, Prop, MissLevel, RandSeed, NumReps, NumItns, StartTemp, CoolFac, NumTemp, RunMode, SaveRun, SaveBest, SaveSummary, SaveTargMet, SaveSumSoln, SaveTurns}
+use Rattle.mz_params.specs.declared.key.Key.TheVariants.{InputDir, OutputDir, ScenName, PuName, FeatName}
+use Rattle.mz_params.specs.declared.key.Key.TheVariants.{PuVsFeatName, BoundName, ZonesName, CostsName, ZoneCostName}
+use Rattle.mz_params.specs.declared.key.Key.TheVariants.{ZoneBoundCostName, ZoneContribName, ZoneTargetName}
+use Rattle.mz_params.specs.declared.key.Key.TheVariants.{PuLockName, PuZoneName, AvailableZone, Blm, Prop, MissLevel}
+use Rattle.mz_params.specs.declared.key.Key.TheVariants.{RandSeed, NumReps, NumItns, StartTemp, CoolFac, NumTemp}
+use Rattle.mz_params.specs.declared.key.Key.TheVariants.{RunMode, SaveRun, SaveBest, SaveSummary, SaveTargMet}
+use Rattle.mz_params.specs.declared.key.Key.TheVariants.{SaveSumSoln, SaveTurns}
 use Rattle.mz_params.specs.declared.params.Params.{Params}
-use Rattle.mz_params.specs.declared.value.Refusal.{Refusal}
+use Rattle.mz_params.specs.declared.fault.ParamFault.{ParamFault}
 use Rattle.mz_params.specs.KeyLine.{KeyLine}
-use Rattle.mz_params.specs.KeyKind.{least_of, greatest_of}
 use Rattle.mz_params.specs.Lines.{value_of}
 use Rattle.mz_params.specs.Value.{text_value, whole_value, millionths_value, seed_value, start_value, mode_value}
 
 -- a text that isn't empty
-abbrev pub full_text : Result (List ℕ) Refusal → Option (List ℕ)
-full_text (Err refusal) = None
+abbrev pub full_text : Result (List ℕ) ParamFault → Option (List ℕ)
+full_text (Err fault) = None
 full_text (Ok []) = None
 full_text (Ok (b ∷ text)) = Some (b ∷ text)
 
 -- the text that a value gives: an empty one counts as not given
-abbrev pub text_in : Option (List ℕ) → Option (List ℕ)
-text_in None = None
-text_in (Some value) = full_text (text_value value)
+abbrev pub text_in : Key → Option (List ℕ) → Option (List ℕ)
+text_in key None = None
+text_in key (Some value) = full_text (text_value key value)
 
 -- what a value reads as, or the default where none is given
-abbrev pub read_or : {A : Type 0} → A → (List ℕ → Result A Refusal) → Option (List ℕ) → A
+abbrev pub read_or : {A : Type 0} → A → (List ℕ → Result A ParamFault) → Option (List ℕ) → A
 read_or default read None = default
 read_or default read (Some value) = result_unwrap_or (read value) default
 
 -- the text of a key, the whole number and the number of millionths
 unfoldable pub text_of : List KeyLine → Key → Option (List ℕ)
-text_of lines key = text_in (value_of key lines)
+text_of lines key = text_in key (value_of key lines)
 
 unfoldable pub whole_at : List KeyLine → Key → ℕ → ℕ
-whole_at lines key default = read_or default (whole_value (least_of key) (greatest_of key)) (value_of key lines)
+whole_at lines key default = read_or default (whole_value key) (value_of key lines)
 
 unfoldable pub millionths_at : List KeyLine → Key → ℕ → ℕ
-millionths_at lines key default = read_or default (millionths_value (least_of key) (greatest_of key)) (value_of key lines)
+millionths_at lines key default = read_or default (millionths_value key) (value_of key lines)
 
 -- the random seed, the temperature to start at and the run mode
 unfoldable pub seed_of : List KeyLine → Option ℕ
-seed_of lines = read_or None seed_value (value_of RandSeed lines)
+seed_of lines = read_or None (seed_value RandSeed) (value_of RandSeed lines)
 
 unfoldable pub start_of : List KeyLine → Option ℕ
-start_of lines = read_or None start_value (value_of StartTemp lines)
+start_of lines = read_or None (start_value StartTemp) (value_of StartTemp lines)
 
 unfoldable pub mode_of : List KeyLine → ℕ
-mode_of lines = read_or 1 mode_value (value_of RunMode lines)
+mode_of lines = read_or 1 (mode_value RunMode) (value_of RunMode lines)
 
 -- the parameters that lines without a fault give
 unfoldable pub params_of : List KeyLine → Params

@@ -1,13 +1,17 @@
--- What each key of a parameter file takes.
-use Rattle.std.specs.Prelude.{ℕ}
-use Rattle.mz_num.specs.Limits.{greatest_id, greatest_quantity, million, most_levels, most_proposals, most_runs}
+-- The kind of value that each key of a parameter file takes.
 use Rattle.mz_params.specs.declared.key.Key.{Key}
-use Rattle.mz_params.specs.declared.key.Key.TheVariants.{InputDir, OutputDir, ScenName, PuName, FeatName, PuVsFeatName, BoundName, ZonesName, CostsName, ZoneCostName, ZoneBoundCostName, ZoneContribName, ZoneTargetName, PuLockName, PuZoneName, AvailableZone, Blm, Prop, MissLevel, RandSeed, NumReps, NumItns, StartTemp, CoolFac, NumTemp, RunMode, SaveRun, SaveBest, SaveSummary, SaveTargMet, SaveSumSoln, SaveTurns, ClumpType, CostThresh, Asymmetric}
-use Rattle.mz_params.specs.declared.kind.Kind.{Kind}
-use Rattle.mz_params.specs.declared.kind.Kind.TheVariants.{Text, Whole, Millionths, Seed, Start, Mode, Zero}
+use Rattle.mz_params.specs.declared.key.Key.TheVariants.{InputDir, OutputDir, ScenName, PuName, FeatName}
+use Rattle.mz_params.specs.declared.key.Key.TheVariants.{PuVsFeatName, BoundName, ZonesName, CostsName, ZoneCostName}
+use Rattle.mz_params.specs.declared.key.Key.TheVariants.{ZoneBoundCostName, ZoneContribName, ZoneTargetName}
+use Rattle.mz_params.specs.declared.key.Key.TheVariants.{PuLockName, PuZoneName, AvailableZone, Blm, Prop, MissLevel}
+use Rattle.mz_params.specs.declared.key.Key.TheVariants.{RandSeed, NumReps, NumItns, StartTemp, CoolFac, NumTemp}
+use Rattle.mz_params.specs.declared.key.Key.TheVariants.{RunMode, SaveRun, SaveBest, SaveSummary, SaveTargMet}
+use Rattle.mz_params.specs.declared.key.Key.TheVariants.{SaveSumSoln, SaveTurns, ClumpType, CostThresh, Asymmetric}
+use Rattle.mz_params.specs.declared.key_kind.KeyKind.{KeyKind}
+use Rattle.mz_params.specs.declared.key_kind.KeyKind.TheVariants.{Text, Whole, Millionths, Seed, Start, Mode, Zero}
 
 -- the kind of value that a key takes
-abbrev pub kind_of : Key → Kind
+abbrev pub kind_of : Key → KeyKind
 kind_of InputDir = Text
 kind_of OutputDir = Text
 kind_of ScenName = Text
@@ -43,27 +47,3 @@ kind_of SaveTurns = Whole
 kind_of ClumpType = Zero
 kind_of CostThresh = Zero
 kind_of Asymmetric = Zero
-
--- the least number that a key takes
-abbrev pub least_of : Key → ℕ
-least_of NumReps = 1
-least_of NumTemp = 1
-least_of _ = 0
-
--- the greatest number that a key takes: a whole number, or one of millionths
-abbrev pub greatest_of : Key → ℕ
-greatest_of AvailableZone = greatest_id
-greatest_of Blm = greatest_quantity
-greatest_of Prop = million
-greatest_of MissLevel = million
-greatest_of NumReps = most_runs
-greatest_of NumItns = most_proposals
-greatest_of CoolFac = greatest_quantity
-greatest_of NumTemp = most_levels
-greatest_of SaveRun = 3
-greatest_of SaveBest = 3
-greatest_of SaveSummary = 3
-greatest_of SaveTargMet = 3
-greatest_of SaveSumSoln = 3
-greatest_of SaveTurns = 3
-greatest_of _ = 0

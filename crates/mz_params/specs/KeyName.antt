@@ -3,7 +3,13 @@ use Rattle.std.specs.Prelude.{ℕ, Bool, List, [], ◌∷◌, Option, codes}
 use Rattle.std.specs.Str.{bytes_eq, str_eq_ignore_ascii_case}
 use Rattle.std.specs.List.{find}
 use Rattle.mz_params.specs.declared.key.Key.{Key}
-use Rattle.mz_params.specs.declared.key.Key.TheVariants.{InputDir, OutputDir, ScenName, PuName, FeatName, PuVsFeatName, BoundName, ZonesName, CostsName, ZoneCostName, ZoneBoundCostName, ZoneContribName, ZoneTargetName, PuLockName, PuZoneName, AvailableZone, Blm, Prop, MissLevel, RandSeed, NumReps, NumItns, StartTemp, CoolFac, NumTemp, RunMode, SaveRun, SaveBest, SaveSummary, SaveTargMet, SaveSumSoln, SaveTurns, ClumpType, CostThresh, Asymmetric}
+use Rattle.mz_params.specs.declared.key.Key.TheVariants.{InputDir, OutputDir, ScenName, PuName, FeatName}
+use Rattle.mz_params.specs.declared.key.Key.TheVariants.{PuVsFeatName, BoundName, ZonesName, CostsName, ZoneCostName}
+use Rattle.mz_params.specs.declared.key.Key.TheVariants.{ZoneBoundCostName, ZoneContribName, ZoneTargetName}
+use Rattle.mz_params.specs.declared.key.Key.TheVariants.{PuLockName, PuZoneName, AvailableZone, Blm, Prop, MissLevel}
+use Rattle.mz_params.specs.declared.key.Key.TheVariants.{RandSeed, NumReps, NumItns, StartTemp, CoolFac, NumTemp}
+use Rattle.mz_params.specs.declared.key.Key.TheVariants.{RunMode, SaveRun, SaveBest, SaveSummary, SaveTargMet}
+use Rattle.mz_params.specs.declared.key.Key.TheVariants.{SaveSumSoln, SaveTurns, ClumpType, CostThresh, Asymmetric}
 
 -- a key's name in the file and in messages
 abbrev pub name_of : Key → List ℕ
@@ -45,7 +51,13 @@ name_of Asymmetric = codes "ASYMMETRICCONNECTIVITY"
 
 -- all keys, in their order
 abbrev pub all_keys : List Key
-all_keys = InputDir ∷ OutputDir ∷ ScenName ∷ PuName ∷ FeatName ∷ PuVsFeatName ∷ BoundName ∷ ZonesName ∷ CostsName ∷ ZoneCostName ∷ ZoneBoundCostName ∷ ZoneContribName ∷ ZoneTargetName ∷ PuLockName ∷ PuZoneName ∷ AvailableZone ∷ Blm ∷ Prop ∷ MissLevel ∷ RandSeed ∷ NumReps ∷ NumItns ∷ StartTemp ∷ CoolFac ∷ NumTemp ∷ RunMode ∷ SaveRun ∷ SaveBest ∷ SaveSummary ∷ SaveTargMet ∷ SaveSumSoln ∷ SaveTurns ∷ ClumpType ∷ CostThresh ∷ Asymmetric ∷ []
+all_keys =
+    InputDir ∷ OutputDir ∷ ScenName ∷ PuName ∷ FeatName ∷ PuVsFeatName ∷ BoundName
+    ∷ ZonesName ∷ CostsName ∷ ZoneCostName ∷ ZoneBoundCostName ∷ ZoneContribName ∷ ZoneTargetName ∷ PuLockName
+    ∷ PuZoneName ∷ AvailableZone ∷ Blm ∷ Prop ∷ MissLevel ∷ RandSeed ∷ NumReps
+    ∷ NumItns ∷ StartTemp ∷ CoolFac ∷ NumTemp ∷ RunMode ∷ SaveRun ∷ SaveBest
+    ∷ SaveSummary ∷ SaveTargMet ∷ SaveSumSoln ∷ SaveTurns ∷ ClumpType ∷ CostThresh ∷ Asymmetric
+    ∷ []
 
 -- the word is the key's name, in capitals or not
 abbrev pub is_named : List ℕ → Key → Bool

@@ -3,6 +3,7 @@ pub mod Given
 pub mod KeyKind
 pub mod KeyLine
 pub mod KeyName
+pub mod KeyRange
 pub mod Lines
 pub mod ParamFile
 pub mod Value

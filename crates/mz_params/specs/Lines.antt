@@ -1,17 +1,16 @@
 -- The lines of a parameter file that are taken.
-use Rattle.std.specs.Prelude.{ℕ, Bool, ◌==◌, nat_eq, List, [], ◌∷◌, ◌++◌, length, drop, Option, Some, None, if◌then◌else◌}
+use Rattle.std.specs.Prelude.{ℕ, Bool, ◌==◌, nat_eq, List, [], ◌∷◌, ◌++◌, length, drop, Option, Some, None}
+use Rattle.std.specs.Prelude.{if◌then◌else◌}
 use Rattle.std.specs.List.{filter_map, slice_split, starts_with, list_any, find}
 use Rattle.std.specs.Option.{option_or, option_map}
 use Rattle.std.specs.Str.Lines.{strip_carriage_return}
 use Rattle.mz_num.specs.Blank.{trimmed}
 use Rattle.mz_params.specs.declared.key.Key.{Key}
 use Rattle.mz_params.specs.declared.fault.ParamFault.{ParamFault}
-use Rattle.mz_params.specs.declared.fault.ParamFault.TheVariants.{Repeated, BadValue, OutOfRange, LeftOut}
-use Rattle.mz_params.specs.declared.value.Refusal.{Refusal}
-use Rattle.mz_params.specs.declared.value.Refusal.TheVariants as refusal
+use Rattle.mz_params.specs.declared.fault.ParamFault.TheVariants.{Repeated}
 use Rattle.mz_params.specs.KeyLine.{KeyLine}
 use Rattle.mz_params.specs.KeyName.{key_of, same_key}
-use Rattle.mz_params.specs.Value.{first_word, value_refusal}
+use Rattle.mz_params.specs.Value.{first_word, value_fault}
 
 abbrev pub is_line_feed : ℕ → Bool
 is_line_feed byte = byte == 10
@@ -45,16 +44,9 @@ has_key key lines = list_any (λ e. same_key e.key key) lines
 unfoldable pub value_of : Key → List KeyLine → Option (List ℕ)
 value_of key lines = option_map (λ e. e.value) (find (λ e. same_key e.key key) lines)
 
--- why a key is refused
-abbrev pub fault_about : Key → Option Refusal → Option ParamFault
-fault_about key None = None
-fault_about key (Some refusal.BadValue) = Some (BadValue key)
-fault_about key (Some refusal.OutOfRange) = Some (OutOfRange key)
-fault_about key (Some refusal.LeftOut) = Some (LeftOut key)
-
 -- the fault of a line behind earlier ones
 unfoldable pub line_fault : List KeyLine → KeyLine → Option ParamFault
-line_fault earlier e = (if has_key e.key earlier then Some (Repeated e.key) else fault_about e.key (value_refusal e.key e.value))
+line_fault earlier e = (if has_key e.key earlier then Some (Repeated e.key) else value_fault e.key e.value)
 
 -- the first fault of lines behind earlier ones
 abbrev pub first_fault : List KeyLine → List KeyLine → Option ParamFault

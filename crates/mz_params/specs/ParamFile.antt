@@ -1,11 +1,13 @@
 -- What a whole parameter file reads as, in this project's profile.
-use Rattle.std.specs.Prelude.{ℕ, ◌≡◌, ◌≤◌, ◌≢◌, ◌*◌, ◌⊎◌, Bool, not, ◌&&◌, ◌==◌, nat_lt, List, [], length, Option, Some, None, is_some, is_none, IfSome, Result, Ok, Err, if◌then◌else◌}
+use Rattle.std.specs.Prelude.{ℕ, ◌≡◌, ◌≤◌, ◌≢◌, ◌*◌, ◌⊎◌, Bool, not, ◌&&◌, ◌==◌, nat_lt, List, [], length, Option}
+use Rattle.std.specs.Prelude.{Some, None, is_some, is_none, IfSome, Result, Ok, Err, if◌then◌else◌}
 use Rattle.std.specs.Option.{option_or}
 use Rattle.mz_num.specs.Limits.{greatest_id, greatest_quantity, million, most_levels, most_proposals, most_runs}
 use Rattle.mz_params.specs.declared.key.Key.TheVariants.{PuName, FeatName, PuVsFeatName, NumItns, CoolFac, SaveTurns}
 use Rattle.mz_params.specs.declared.params.Params.{Params}
 use Rattle.mz_params.specs.declared.fault.ParamFault.{ParamFault}
-use Rattle.mz_params.specs.declared.fault.ParamFault.TheVariants.{Missing, OutOfRange, NoMemory, Repeated, BadValue, LeftOut}
+use Rattle.mz_params.specs.declared.fault.ParamFault.TheVariants.{Missing, OutOfRange, NoMemory, Repeated, BadValue}
+use Rattle.mz_params.specs.declared.fault.ParamFault.TheVariants.{LeftOut}
 use Rattle.mz_params.specs.KeyLine.{KeyLine}
 use Rattle.mz_params.specs.Lines.{lines_of, first_fault}
 use Rattle.mz_params.specs.Given.{params_of}
@@ -21,14 +23,16 @@ most_kept_turns = 200000000
 abbrev pub fault_where : Bool → ParamFault → Option ParamFault
 fault_where test fault = (if test then Some fault else None)
 
--- the first file that is needed and isn't named: the units; the features with the amounts; the amounts with the features
+-- the first file that is needed and isn't named: the units; the features with the amounts; the amounts with the
+-- features
 abbrev pub missing_fault : Params → Option ParamFault
 missing_fault p =
     option_or (fault_where (length p.units == 0) (Missing PuName))
     (option_or (fault_where (is_none p.features && is_some p.amounts) (Missing FeatName))
     (fault_where (is_some p.features && is_none p.amounts) (Missing PuVsFeatName)))
 
--- the first of the limits on several keys that is passed: of all proposals, of cooling from a given start, of stored turns
+-- the first of the limits on several keys that is passed: of all proposals, of cooling from a given start, of
+-- stored turns
 abbrev pub limit_fault : Params → Option ParamFault
 limit_fault p =
     option_or (fault_where (nat_lt most_proposals_of_all (p.reps * p.iterations)) (OutOfRange NumItns))
@@ -42,7 +46,10 @@ unless (Some fault) params = Err fault
 
 -- the parameters of lines, or the first fault: of the lines in order, then of missing files, then of the limits
 abbrev pub params_in : List KeyLine → Result Params ParamFault
-params_in lines = unless (option_or (first_fault [] lines) (option_or (missing_fault (params_of lines)) (limit_fault (params_of lines)))) (params_of lines)
+params_in lines =
+    unless
+    (option_or (first_fault [] lines) (option_or (missing_fault (params_of lines)) (limit_fault (params_of lines))))
+    (params_of lines)
 
 -- the parameters of a file, or its first fault
 unfoldable pub params_from : List ℕ → Result Params ParamFault

@@ -1,5 +1,7 @@
--- What the value of each kind of key reads as, in this project's profile.
-use Rattle.std.specs.Prelude.{ℕ, ℤ, pos, negsuc, ◌||◌, ◌==◌, nat_lt, List, Option, Some, None, Result, Ok, Err, if◌then◌else◌}
+-- What the value of a key reads as, by the kind of the key, in this project's profile.
+use Rattle.std.specs.Prelude.{ℕ, ℤ, pos, negsuc, ◌||◌, ◌==◌, nat_lt, List, Option, Some, None, Result, Ok, Err}
+use Rattle.std.specs.Prelude.{if◌then◌else◌}
+use Rattle.std.specs.Result.{result_err}
 use Rattle.std.specs.Str.{is_utf8}
 use Rattle.std.specs.List.{before_first}
 use Rattle.mz_num.specs.Blank.{is_blank}
@@ -7,94 +9,91 @@ use Rattle.mz_num.specs.NumberText.{ten4_of, mic6_of, whole_of, signed_of}
 use Rattle.mz_num.specs.declared.fault.NumFault.{NumFault}
 use Rattle.mz_num.specs.declared.fault.NumFault.TheVariants.{Empty, NotANumber, Negative, TooLarge}
 use Rattle.mz_params.specs.declared.key.Key.{Key}
-use Rattle.mz_params.specs.KeyKind.{kind_of, least_of, greatest_of}
-use Rattle.mz_params.specs.declared.kind.Kind.{Kind}
-use Rattle.mz_params.specs.declared.kind.Kind.TheVariants.{Text, Whole, Millionths, Seed, Start, Mode, Zero}
-use Rattle.mz_params.specs.declared.value.Refusal.{Refusal}
-use Rattle.mz_params.specs.declared.value.Refusal.TheVariants.{BadValue, OutOfRange, LeftOut}
+use Rattle.mz_params.specs.declared.key_kind.KeyKind.{KeyKind}
+use Rattle.mz_params.specs.declared.key_kind.KeyKind.TheVariants.{Text, Whole, Millionths, Seed, Start, Mode, Zero}
+use Rattle.mz_params.specs.declared.fault.ParamFault.{ParamFault}
+use Rattle.mz_params.specs.declared.fault.ParamFault.TheVariants.{BadValue, OutOfRange, LeftOut}
+use Rattle.mz_params.specs.KeyKind.{kind_of}
+use Rattle.mz_params.specs.KeyRange.{least_of, greatest_of}
 
 -- the first word: what stands before the first blank
 abbrev pub first_word : List ℕ → List ℕ
 first_word text = before_first is_blank text
 
--- why a number is refused where no number below 0 is taken
-abbrev pub refusal_of : NumFault → Refusal
-refusal_of Empty = BadValue
-refusal_of NotANumber = BadValue
-refusal_of Negative = OutOfRange
-refusal_of TooLarge = OutOfRange
+-- the fault of a key that takes no number below 0
+abbrev pub number_fault : Key → NumFault → ParamFault
+number_fault key Empty = BadValue key
+number_fault key NotANumber = BadValue key
+number_fault key Negative = OutOfRange key
+number_fault key TooLarge = OutOfRange key
 
 -- a text, which is UTF-8
-unfoldable pub text_value : List ℕ → Result (List ℕ) Refusal
-text_value text = (if is_utf8 text then Ok text else Err BadValue)
+unfoldable pub text_value : Key → List ℕ → Result (List ℕ) ParamFault
+text_value key text = (if is_utf8 text then Ok text else Err (BadValue key))
 
--- a number from the least to the greatest that is taken
-abbrev pub within : ℕ → ℕ → Result ℕ NumFault → Result ℕ Refusal
-within least most (Err fault) = Err (refusal_of fault)
-within least most (Ok n) = (if nat_lt n least || nat_lt most n then Err OutOfRange else Ok n)
+-- a number from the least to the greatest that the key takes
+abbrev pub in_range : Key → Result ℕ NumFault → Result ℕ ParamFault
+in_range key (Err fault) = Err (number_fault key fault)
+in_range key (Ok n) = (if nat_lt n (least_of key) || nat_lt (greatest_of key) n then Err (OutOfRange key) else Ok n)
 
--- a whole number in a range
-unfoldable pub whole_value : ℕ → ℕ → List ℕ → Result ℕ Refusal
-whole_value least most text = within least most (whole_of most (first_word text))
+-- a whole number in the key's range
+unfoldable pub whole_value : Key → List ℕ → Result ℕ ParamFault
+whole_value key text = in_range key (whole_of (greatest_of key) (first_word text))
 
--- a number of millionths in a range
-unfoldable pub millionths_value : ℕ → ℕ → List ℕ → Result ℕ Refusal
-millionths_value least most text = within least most (mic6_of (first_word text))
+-- a number of millionths in the key's range
+unfoldable pub millionths_value : Key → List ℕ → Result ℕ ParamFault
+millionths_value key text = in_range key (mic6_of (first_word text))
 
 -- a seed: none where the number is below 0
-abbrev pub seed_from : Result ℤ NumFault → Result (Option ℕ) Refusal
-seed_from (Err fault) = Err (refusal_of fault)
-seed_from (Ok (pos n)) = Ok (Some n)
-seed_from (Ok (negsuc n)) = Ok None
+abbrev pub seed_from : Key → Result ℤ NumFault → Result (Option ℕ) ParamFault
+seed_from key (Err fault) = Err (number_fault key fault)
+seed_from key (Ok (pos n)) = Ok (Some n)
+seed_from key (Ok (negsuc n)) = Ok None
 
-unfoldable pub seed_value : List ℕ → Result (Option ℕ) Refusal
-seed_value text = seed_from (signed_of (first_word text))
+unfoldable pub seed_value : Key → List ℕ → Result (Option ℕ) ParamFault
+seed_value key text = seed_from key (signed_of (first_word text))
 
 -- a temperature to start at: none where the number is below 0
-abbrev pub start_from : Result ℕ NumFault → Result (Option ℕ) Refusal
-start_from (Err Negative) = Ok None
-start_from (Err Empty) = Err BadValue
-start_from (Err NotANumber) = Err BadValue
-start_from (Err TooLarge) = Err OutOfRange
-start_from (Ok n) = Ok (Some n)
+abbrev pub start_from : Key → Result ℕ NumFault → Result (Option ℕ) ParamFault
+start_from key (Err Negative) = Ok None
+start_from key (Err Empty) = Err (BadValue key)
+start_from key (Err NotANumber) = Err (BadValue key)
+start_from key (Err TooLarge) = Err (OutOfRange key)
+start_from key (Ok n) = Ok (Some n)
 
-unfoldable pub start_value : List ℕ → Result (Option ℕ) Refusal
-start_value text = start_from (ten4_of (first_word text))
+unfoldable pub start_value : Key → List ℕ → Result (Option ℕ) ParamFault
+start_value key text = start_from key (ten4_of (first_word text))
 
 -- a run mode: annealing and improvement, improvement, annealing; every other is left out
-abbrev pub mode_from : Result ℤ NumFault → Result ℕ Refusal
-mode_from (Err fault) = Err (refusal_of fault)
-mode_from (Ok (pos n)) = (if n == 1 || n == 4 || n == 6 then Ok n else Err LeftOut)
-mode_from (Ok (negsuc n)) = Err LeftOut
+abbrev pub mode_from : Key → Result ℤ NumFault → Result ℕ ParamFault
+mode_from key (Err fault) = Err (number_fault key fault)
+mode_from key (Ok (pos n)) = (if n == 1 || n == 4 || n == 6 then Ok n else Err (LeftOut key))
+mode_from key (Ok (negsuc n)) = Err (LeftOut key)
 
-unfoldable pub mode_value : List ℕ → Result ℕ Refusal
-mode_value text = mode_from (signed_of (first_word text))
+unfoldable pub mode_value : Key → List ℕ → Result ℕ ParamFault
+mode_value key text = mode_from key (signed_of (first_word text))
 
 -- the number 0; every other number is left out
-abbrev pub zero_from : Result ℕ NumFault → Result ℕ Refusal
-zero_from (Err Empty) = Err BadValue
-zero_from (Err NotANumber) = Err BadValue
-zero_from (Err Negative) = Err LeftOut
-zero_from (Err TooLarge) = Err LeftOut
-zero_from (Ok n) = (if n == 0 then Ok 0 else Err LeftOut)
+abbrev pub zero_from : Key → Result ℕ NumFault → Result ℕ ParamFault
+zero_from key (Err Empty) = Err (BadValue key)
+zero_from key (Err NotANumber) = Err (BadValue key)
+zero_from key (Err Negative) = Err (LeftOut key)
+zero_from key (Err TooLarge) = Err (LeftOut key)
+zero_from key (Ok n) = (if n == 0 then Ok 0 else Err (LeftOut key))
 
-unfoldable pub zero_value : List ℕ → Result ℕ Refusal
-zero_value text = zero_from (mic6_of (first_word text))
+unfoldable pub zero_value : Key → List ℕ → Result ℕ ParamFault
+zero_value key text = zero_from key (mic6_of (first_word text))
 
--- why a result is refused
-abbrev pub refusal_in : {A : Type 0} → Result A Refusal → Option Refusal
-refusal_in (Ok a) = None
-refusal_in (Err refusal) = Some refusal
+-- the fault of a value, read as a kind
+abbrev pub fault_by : KeyKind → Key → List ℕ → Option ParamFault
+fault_by Text key text = result_err (text_value key text)
+fault_by Whole key text = result_err (whole_value key text)
+fault_by Millionths key text = result_err (millionths_value key text)
+fault_by Seed key text = result_err (seed_value key text)
+fault_by Start key text = result_err (start_value key text)
+fault_by Mode key text = result_err (mode_value key text)
+fault_by Zero key text = result_err (zero_value key text)
 
--- why a key's value is refused, by the kind of the key
-abbrev pub refusal_by : Kind → ℕ → ℕ → List ℕ → Option Refusal
-refusal_by Text least most text = refusal_in (text_value text)
-refusal_by Whole least most text = refusal_in (whole_value least most text)
-refusal_by Millionths least most text = refusal_in (millionths_value least most text)
-refusal_by Seed least most text = refusal_in (seed_value text)
-refusal_by Start least most text = refusal_in (start_value text)
-refusal_by Mode least most text = refusal_in (mode_value text)
-refusal_by Zero least most text = refusal_in (zero_value text)
-
-unfoldable pub value_refusal : Key → List ℕ → Option Refusal
-value_refusal key text = refusal_by (kind_of key) (least_of key) (greatest_of key) text
+-- the fault of a key's value
+unfoldable pub value_fault : Key → List ℕ → Option ParamFault
+value_fault key text = fault_by (kind_of key) key text

@@ -1,5 +1,10 @@
 //! Why a parameter file is refused.
+ghost use Rattle.std.specs.Prelude.{◌≡◌};
+ghost use Rattle.mz_params.specs.declared.fault.ParamFault.TheVariants as the_fault;
+
 use crate::key::Key;
+use mz_num::NoMemory;
+use std::alloc::AllocFailed;
 
 /// The first fault of a parameter file, with the key that it is about. The order of faults is
 /// this project's profile.
@@ -17,4 +22,20 @@ pub enum ParamFault {
     Missing(Key),
     /// There was not enough memory.
     NoMemory,
+}
+
+impl From<NoMemory> for ParamFault {
+    ghost from_gives = { λ _ fault. fault ≡ the_fault.NoMemory };
+
+    fn from(_error: NoMemory) -> ParamFault {
+        ParamFault::NoMemory
+    }
+}
+
+impl<T: Drop> From<AllocFailed<T>> for ParamFault {
+    ghost from_gives = { λ _ fault. fault ≡ the_fault.NoMemory };
+
+    fn from(_error: AllocFailed<T>) -> ParamFault {
+        ParamFault::NoMemory
+    }
 }

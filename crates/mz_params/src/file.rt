@@ -7,7 +7,7 @@ ghost use Rattle.mz_params.specs.ParamFile.{IsFirstFault};
 use crate::fault::ParamFault;
 use crate::key::{Key, is_same};
 use crate::key_line::{KeyLine, read_line};
-use crate::value::{Refusal, why_refused};
+use crate::value::value_fault;
 use std::alloc::Global;
 
 /// The lines of a file that are taken, or the first fault among them.
@@ -22,9 +22,7 @@ pub(crate) fn read_lines(alloc: Global, bytes: &[u8]) -> Result<Vec<KeyLine<'_>>
             if let Some(fault) = fault_of(&lines, &line) {
                 return Err(fault);
             }
-            if lines.push(line).is_err() {
-                return Err(ParamFault::NoMemory);
-            }
+            lines.push(line)?;
         }
     }
     Ok(lines)
@@ -48,12 +46,7 @@ fn fault_of(lines: &[KeyLine], line: &KeyLine) -> Option<ParamFault>
     if has_line(lines, line.key()) {
         return Some(ParamFault::Repeated(line.key()));
     }
-    match why_refused(line.key(), line.value()) {
-        Some(Refusal::BadValue) => Some(ParamFault::BadValue(line.key())),
-        Some(Refusal::OutOfRange) => Some(ParamFault::OutOfRange(line.key())),
-        Some(Refusal::LeftOut) => Some(ParamFault::LeftOut(line.key())),
-        None => None,
-    }
+    value_fault(line.key(), line.value())
 }
 
 fn has_line(lines: &[KeyLine], key: Key) -> bool

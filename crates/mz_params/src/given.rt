@@ -3,7 +3,7 @@ ghost use Rattle.std.specs.Prelude.{◌≡◌, ◌≤◌, IfOk};
 ghost use Rattle.std.specs.Option.{unwrap_or};
 ghost use Rattle.mz_num.specs.Limits.{greatest_quantity};
 ghost use Rattle.mz_params.specs.Given.{text_of, whole_at, millionths_at, seed_of, start_of, mode_of, params_of};
-ghost use Rattle.mz_params.specs.KeyKind.{least_of, greatest_of};
+ghost use Rattle.mz_params.specs.KeyRange.{least_of, greatest_of};
 
 use crate::file::value;
 use crate::key::Key;
@@ -63,7 +63,7 @@ fn text(alloc: Global, lines: &[KeyLine], key: Key) -> Result<Option<Text>, NoMe
     let Some(value) = value(lines, key) else {
         return Ok(None);
     };
-    match read_text(value) {
+    match read_text(key, value) {
         Ok("") | Err(_) => Ok(None),
         Ok(text) => Ok(Some(Text::new(String::from_str(alloc, text)?))),
     }
@@ -89,7 +89,7 @@ fn whole(lines: &[KeyLine], key: Key, default: u64) -> u64
     ensures greatest { result ≤ greatest_of key }
 {
     match value(lines, key) {
-        Some(text) => read_number(text, key.least(), key.greatest()).unwrap_or(default),
+        Some(text) => read_number(key, text).unwrap_or(default),
         None => default,
     }
 }
@@ -104,7 +104,7 @@ fn millionths(lines: &[KeyLine], key: Key, default: u64) -> Mic6
     ensures greatest { result ≤ greatest_of key }
 {
     match value(lines, key) {
-        Some(text) => read_millionths(text, key.least(), key.greatest()).unwrap_or(Mic6(default)),
+        Some(text) => read_millionths(key, text).unwrap_or(Mic6(default)),
         None => Mic6(default),
     }
 }
@@ -115,7 +115,7 @@ fn seed(lines: &[KeyLine]) -> Option<u32>
     ensures { result ≡ seed_of lines.now }
 {
     match value(lines, Key::RandSeed) {
-        Some(text) => read_seed(text).unwrap_or(None),
+        Some(text) => read_seed(Key::RandSeed, text).unwrap_or(None),
         None => None,
     }
 }
@@ -126,7 +126,7 @@ fn start(lines: &[KeyLine]) -> Option<Ten4>
     ensures { result ≡ start_of lines.now }
 {
     match value(lines, Key::StartTemp) {
-        Some(text) => read_start(text).unwrap_or(None),
+        Some(text) => read_start(Key::StartTemp, text).unwrap_or(None),
         None => None,
     }
 }
@@ -137,7 +137,7 @@ fn mode(lines: &[KeyLine]) -> u8
     ensures { result ≡ mode_of lines.now }
 {
     match value(lines, Key::RunMode) {
-        Some(text) => read_mode(text).unwrap_or(1),
+        Some(text) => read_mode(Key::RunMode, text).unwrap_or(1),
         None => 1,
     }
 }

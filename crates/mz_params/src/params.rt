@@ -96,13 +96,8 @@ impl Params {
         ensures answer { Answers result (params_from bytes.now) }
         ensures accepted { IfOk result IsAccepted }
     {
-        let lines = match read_lines(alloc, bytes) {
-            Ok(lines) => lines,
-            Err(fault) => return Err(fault),
-        };
-        let Ok(params) = given_params(alloc, &lines) else {
-            return Err(ParamFault::NoMemory);
-        };
+        let lines = read_lines(alloc, bytes)?;
+        let params = given_params(alloc, &lines)?;
         match params.missing().or(params.limit()) {
             Some(fault) => Err(fault),
             None => Ok(params),

@@ -7,9 +7,10 @@ use Rattle.mz_num.specs.Places.{sum_below, greatest_below}
 use Rattle.mz_num.proofs.PlaceLaws.{list_below-from, sum_below-same, at-le-sum_below, at-le-greatest_below}
 use Rattle.mz_units.specs.Terms.{AreCostTerms, HasCosts}
 use Rattle.mz_project.specs.declared.area.Area.{Area}
-use Rattle.mz_project.specs.Fits.{FitsArea}
-use Rattle.mz_project.specs.Limits.{is_above, costs_are_above, raw_cost, greatest_cost}
-use Rattle.mz_project.specs.Parts.{term_of, terms_of}
+use Rattle.mz_project.specs.Area.{FitsArea}
+use Rattle.mz_project.specs.Limits.{is_above, costs_are_above}
+use Rattle.mz_project.specs.Costs.{raw_cost, greatest_cost}
+use Rattle.mz_project.specs.Costs.{term_of, terms_of}
 use Rattle.mz_project.proofs.BelowLemmas.{or_true, right_false}
 use Rattle.mz_rows.proofs.PairLemmas.{first-below, second-below, pair-whole}
 

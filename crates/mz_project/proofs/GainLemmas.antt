@@ -20,10 +20,11 @@ use Rattle.mz_targets.specs.declared.zone_targets.ZoneTarget.{ZoneTarget}
 use Rattle.mz_targets.specs.ZoneTargets.{IsZoneTarget}
 use Rattle.mz_project.specs.declared.limits.amounts.AmountsByFeature.{AmountsByFeature}
 use Rattle.mz_project.specs.declared.region.Region.{Region}
-use Rattle.mz_project.specs.Fits.{FitsRegion}
+use Rattle.mz_project.specs.Region.{FitsRegion}
 use Rattle.mz_project.specs.AmountsByFeature.{amounts_by_feature}
-use Rattle.mz_project.specs.Limits.{gains_are_above, greatest_gain, is_above, totals_are_above}
-use Rattle.mz_project.specs.Parts.{overall_row, target_rows_of, zone_row}
+use Rattle.mz_project.specs.Limits.{gains_are_above, is_above, totals_are_above}
+use Rattle.mz_project.specs.Gains.{greatest_gain}
+use Rattle.mz_project.specs.TargetRows.{overall_row, target_rows_of, zone_row}
 use Rattle.mz_project.proofs.AmountLemmas.{few-holders, holders-at, sum_of}
 use Rattle.mz_project.proofs.LevelLemmas.{total-small}
 

@@ -13,7 +13,7 @@ use Rattle.mz_targets.specs.ZoneTargets.{IsZoneTarget}
 use Rattle.mz_project.specs.declared.targets.Targets.{Targets}
 use Rattle.mz_project.specs.AmountsByFeature.{amounts_by_feature}
 use Rattle.mz_project.specs.Limits.{is_above, levels_are_above, totals_are_above}
-use Rattle.mz_project.specs.Parts.{feature_at, levels_of, no_feature, overall_level, zone_level}
+use Rattle.mz_project.specs.Levels.{feature_at, levels_of, no_feature, overall_level, zone_level}
 use Rattle.mz_project.proofs.AboveLemmas.{none_above, some_above}
 use Rattle.mz_project.proofs.BelowLemmas.{within-at}
 

@@ -22,10 +22,17 @@ use Rattle.mz_targets.specs.Amounts as targets
 use Rattle.mz_targets.specs.declared.zone_targets.ZoneTarget.{ZoneTarget}
 use Rattle.mz_project.specs.declared.area.Area.{Area}
 use Rattle.mz_project.specs.declared.region.Region.{Region}
-use Rattle.mz_project.specs.Fits.{FitsRegion}
-use Rattle.mz_project.specs.Limits.{costs_are_above, gains_are_above, greatest_gain, greatest_term, heavy_row, is_above, lengths_are_above, levels_are_above, rates_are_above, terms_are_above}
+use Rattle.mz_project.specs.Region.{FitsRegion}
+use Rattle.mz_project.specs.Limits.{costs_are_above, gains_are_above, heavy_row, is_above, lengths_are_above}
+use Rattle.mz_project.specs.Limits.{levels_are_above, rates_are_above, terms_are_above}
+use Rattle.mz_project.specs.Gains.{greatest_gain}
+use Rattle.mz_project.specs.Rates.{greatest_term}
 use Rattle.mz_project.specs.Numbers.{AreCostsWithin, AreTargetsWithin}
-use Rattle.mz_project.specs.Parts.{levels_of, overall_level, overall_row, parts_of, rates_of, target_rows_of, term_of, terms_of, zone_row}
+use Rattle.mz_project.specs.Levels.{levels_of, overall_level}
+use Rattle.mz_project.specs.TargetRows.{overall_row, target_rows_of, zone_row}
+use Rattle.mz_project.specs.Parts.{parts_of}
+use Rattle.mz_project.specs.Rates.{rates_of}
+use Rattle.mz_project.specs.Costs.{term_of, terms_of}
 use Rattle.mz_project.proofs.BelowLemmas.{left_false, right_false}
 use Rattle.mz_project.proofs.CostLemmas.{within_limit}
 use Rattle.mz_project.proofs.LevelLemmas.{total-small}

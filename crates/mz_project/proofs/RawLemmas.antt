@@ -8,9 +8,10 @@ use Rattle.std.proofs.lemmas.List.Sums.{sum_by_more}
 use Rattle.mz_num.specs.Places.{list_below, sum_below}
 use Rattle.mz_num.proofs.PlaceLaws.{get_or-list_below, length-list_below, list_below-more, sum_below-same}
 use Rattle.mz_project.specs.declared.area.Area.{Area}
-use Rattle.mz_project.specs.Fits.{FitsArea}
-use Rattle.mz_project.specs.Limits.{costs_are_above, greatest_cost, is_above, raw_cost}
-use Rattle.mz_project.specs.Parts.{raw_cost_of, raw_costs_of}
+use Rattle.mz_project.specs.Area.{FitsArea}
+use Rattle.mz_project.specs.Limits.{costs_are_above, is_above}
+use Rattle.mz_project.specs.Costs.{greatest_cost, raw_cost}
+use Rattle.mz_project.specs.Costs.{raw_cost_of, raw_costs_of}
 use Rattle.mz_project.proofs.BelowLemmas.{left_false}
 
 -- sums of lists, place by place

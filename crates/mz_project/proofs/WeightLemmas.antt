@@ -22,8 +22,12 @@ use Rattle.mz_targets.specs.declared.zone_targets.ZoneTarget.{ZoneTarget}
 use Rattle.mz_project.specs.declared.region.Region.{Region}
 use Rattle.mz_project.specs.declared.targets.Targets.{Targets}
 use Rattle.mz_project.specs.Bases.{AreBases}
-use Rattle.mz_project.specs.Limits.{heavy_row, id_of_row, is_above}
-use Rattle.mz_project.specs.Parts.{bases_for, feature_at, levels_of, no_feature, overall_level, overall_row, raw_costs_of, row_for, target_rows_of, weight_for, zone_level, zone_row}
+use Rattle.mz_project.specs.Limits.{heavy_row, is_above}
+use Rattle.mz_project.specs.TargetRows.{id_of_row}
+use Rattle.mz_project.specs.Weights.{bases_for, weight_for}
+use Rattle.mz_project.specs.Levels.{feature_at, levels_of, no_feature, overall_level, zone_level}
+use Rattle.mz_project.specs.TargetRows.{overall_row, row_for, target_rows_of, zone_row}
+use Rattle.mz_project.specs.Costs.{raw_costs_of}
 
 -- one list of what places below n give, and of what things give
 pub front-at : {X Y : Type 0} (n k : ℕ) (f : ℕ → X) (g : Y → X) (ys : List Y) (d : X) → k < n → get_or (list_below n f ++ map g ys) k d ≡ f k

@@ -1,5 +1,8 @@
 -- The zones, the costs, the units and what the zones multiply the costs by.
-use Rattle.std.specs.Prelude.{ℕ, List, [], ◌∷◌, length, codes, Option, Some, None, Result, Ok, Err}
+use Rattle.std.specs.Prelude.{ℕ, ◌<◌, List, length, [], ◌∷◌, codes, Option, Some, None, Result, Ok, Err}
+use Rattle.mz_rows.specs.ByZone.{AreByZone}
+use Rattle.mz_units.specs.Named.{IsNamedList, costs_of, zones_of}
+use Rattle.mz_units.specs.UnitRows.{IsUnitList, units_of}
 use Rattle.mz_shelf.specs.State.{Files}
 use Rattle.mz_params.specs.declared.fault.ParamFault.TheVariants.{OutOfRange}
 use Rattle.mz_params.specs.declared.key.Key.TheVariants.{AvailableZone}
@@ -8,8 +11,6 @@ use Rattle.mz_tables.specs.Ids.{place_of_id}
 use Rattle.mz_units.specs.declared.named.CostList.{CostList}
 use Rattle.mz_units.specs.declared.named.ZoneList.{ZoneList}
 use Rattle.mz_units.specs.declared.units.UnitList.{UnitList}
-use Rattle.mz_units.specs.Named.{costs_of, zones_of}
-use Rattle.mz_units.specs.UnitRows.{units_of}
 use Rattle.mz_units.specs.Wanted.{unit_columns}
 use Rattle.mz_units.specs.ZoneCosts.{multipliers_of}
 use Rattle.mz_project.specs.declared.area.Area.{Area}
@@ -18,6 +19,14 @@ use Rattle.mz_project.specs.declared.fault.InputFault.TheVariants.{Param}
 use Rattle.mz_project.specs.declared.fault.Which.TheVariants.{Zones, Costs, Units, ZoneCosts}
 use Rattle.mz_project.specs.Defaults.{ones_outside}
 use Rattle.mz_project.specs.Reads.{Reads, rows_or_default, rows_read, taken, then_read}
+
+-- the zones, one of them available, the costs, a cost of each kind for each unit, a multiplier for each pair
+pub record FitsArea (area : Area) : Type 0 where
+  pub zones : IsNamedList area.zones.ids area.zones.names
+  pub available : area.available < length area.zones.ids
+  pub costs : IsNamedList area.costs.ids area.costs.names
+  pub units : IsUnitList (length area.costs.ids) area.units
+  pub multipliers : AreByZone (length area.zones.ids) (length area.costs.ids) area.multipliers
 
 -- without a file of zones there are an available and a reserved one
 abbrev pub default_zones : ZoneList
@@ -47,24 +56,30 @@ units_read params costs files = rows_read files params.input_dir params.units Un
 -- without a file of zone costs each cost counts once outside the available zone
 abbrev pub multipliers_read : Params → ZoneList → ℕ → CostList → Files → Reads (List ℕ)
 multipliers_read params zones available costs files =
-    rows_or_default params ZoneCosts (ones_outside (length zones.ids) (length costs.ids) available) (multipliers_of zones.ids costs.ids) files
+    rows_or_default params ZoneCosts (ones_outside (length zones.ids) (length costs.ids) available)
+    (multipliers_of zones.ids costs.ids) files
 
 -- all of these, in order
 abbrev pub area_of : ZoneList → ℕ → CostList → UnitList → List ℕ → Area
-area_of zones available costs units multipliers = record { zones = zones; available = available; costs = costs; units = units; multipliers = multipliers }
+area_of zones available costs units multipliers =
+    record { zones = zones; available = available; costs = costs; units = units; multipliers = multipliers }
 
 abbrev pub read_behind_units : Params → ZoneList → ℕ → CostList → UnitList → Files → Reads Area
 read_behind_units params zones available costs units files =
-    then_read (multipliers_read params zones available costs files) (λ multipliers. taken (Ok (area_of zones available costs units multipliers)))
+    then_read (multipliers_read params zones available costs files)
+    (λ multipliers. taken (Ok (area_of zones available costs units multipliers)))
 
 abbrev pub read_behind_costs : Params → ZoneList → ℕ → CostList → Files → Reads Area
-read_behind_costs params zones available costs files = then_read (units_read params costs files) (λ units. read_behind_units params zones available costs units files)
+read_behind_costs params zones available costs files =
+    then_read (units_read params costs files) (λ units. read_behind_units params zones available costs units files)
 
 abbrev pub read_behind_available : Params → ZoneList → ℕ → Files → Reads Area
-read_behind_available params zones available files = then_read (costs_read params files) (λ costs. read_behind_costs params zones available costs files)
+read_behind_available params zones available files =
+    then_read (costs_read params files) (λ costs. read_behind_costs params zones available costs files)
 
 abbrev pub read_behind_zones : Params → ZoneList → Files → Reads Area
-read_behind_zones params zones files = then_read (taken (available_place params zones)) (λ available. read_behind_available params zones available files)
+read_behind_zones params zones files =
+    then_read (taken (available_place params zones)) (λ available. read_behind_available params zones available files)
 
 unfoldable pub area_read : Params → Files → Reads Area
 area_read params files = then_read (zones_read params files) (λ zones. read_behind_zones params zones files)

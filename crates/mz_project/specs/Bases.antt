@@ -3,7 +3,7 @@ use Rattle.std.specs.Prelude.{◌≡◌, ℕ, ◌<◌, List, [], length, slice_i
 use Rattle.mz_penalty.specs.Order.{HeldAmount}
 use Rattle.mz_penalty.specs.Ordered.{base_until}
 use Rattle.mz_project.specs.declared.region.Region.{Region}
-use Rattle.mz_project.specs.Parts.{bases_for}
+use Rattle.mz_project.specs.Weights.{bases_for}
 
 pub record AreBases (region : Region) (count : ℕ) (bases : List (List HeldAmount)) : Type 0 where
   pub all : length bases ≡ count

@@ -9,4 +9,5 @@ one_outside available zone = if zone == available then 0 else million
 
 -- the same for each of so many things in each zone, at `zone * things + thing`
 unfoldable pub ones_outside : ℕ → ℕ → ℕ → List ℕ
-ones_outside zones things available = flat_map (λ zone. replicate things (one_outside available zone)) (range_with_len 0 zones)
+ones_outside zones things available =
+    flat_map (λ zone. replicate things (one_outside available zone)) (range_with_len 0 zones)

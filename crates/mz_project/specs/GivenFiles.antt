@@ -30,4 +30,6 @@ boundary_names params = params.bounds ∷ params.zone_bounds ∷ []
 
 -- all of these, in order
 unfoldable pub given_files : Params → List (List ℕ)
-given_files params = files_among params.input_dir (area_names params ++ (target_names params ++ (set_names params ++ boundary_names params)))
+given_files params =
+    files_among params.input_dir
+    (area_names params ++ (target_names params ++ (set_names params ++ boundary_names params)))

@@ -1,5 +1,7 @@
--- The table of the input files: of each the word that messages name it by, the parameter that names it, and the columns that it is read for.
-use Rattle.std.specs.Prelude.{ℕ, Bool, false, nat_lt, if◌then◌else◌, List, [], ◌++◌, codes, decimal, get_or, Option, Some, None}
+-- The table of the input files: of each the word that messages name it by, the parameter that names it, and the
+-- columns that it is read for.
+use Rattle.std.specs.Prelude.{ℕ, Bool, false, nat_lt, if◌then◌else◌, List, [], ◌++◌, codes, decimal, get_or, Option}
+use Rattle.std.specs.Prelude.{Some, None}
 use Rattle.mz_params.specs.declared.params.Params.{Params}
 use Rattle.mz_tables.specs.declared.wants.Want.{Want}
 use Rattle.mz_tables.specs.Wants.{want}
@@ -66,7 +68,10 @@ is_cost_column which place = false
 abbrev pub no_column : Want
 no_column = want [] [] false
 
--- the name of the column at a place, by which messages name it: `cost` and the place of a cost, else the column's first name;
+-- the name of the column at a place, by which messages name it: `cost` and the place of a cost, else the
+-- column's first name;
 -- empty past the last column
 abbrev pub column_name : Which → ℕ → List ℕ
-column_name which place = if is_cost_column which place then codes "cost " ++ decimal place else (get_or (columns_of which) place no_column).name
+column_name which place =
+    if is_cost_column which place then codes "cost " ++ decimal place
+    else (get_or (columns_of which) place no_column).name

@@ -1,25 +1,28 @@
--- The quantities of a project that have a limit.
-use Rattle.std.specs.Prelude.{◌≡◌, ℕ, zero, suc, ◌+◌, ◌*◌, Bool, true, false, ◌||◌, nat_lt, if◌then◌else◌, List, length, slice_index, Option, Some, None, Result, Ok, Err}
-use Rattle.std.specs.List.{find, list_any, sum}
-use Rattle.mz_num.specs.Limits.{greatest_quantity, million}
-use Rattle.mz_num.specs.Round.{round}
+-- The quantities of a project that have a limit, and the limits in their order.
+use Rattle.std.specs.Prelude.{ℕ, zero, suc, Bool, true, false, ◌||◌, nat_lt, if◌then◌else◌, List, [], ◌∷◌, ◌++◌}
+use Rattle.std.specs.Prelude.{length, Option, Some, None}
+use Rattle.std.specs.Prelude.{Result, Ok, Err}
+use Rattle.std.specs.List.{find, list_any}
+use Rattle.std.specs.Option.{option_or}
+use Rattle.mz_num.specs.Limits.{greatest_quantity}
 use Rattle.mz_params.specs.declared.params.Params.{Params}
 use Rattle.mz_model.specs.declared.parts.Parts.{Parts}
 use Rattle.mz_model.specs.declared.parts.Target.{Target}
-use Rattle.mz_model.specs.Amounts.{amount_of, total_of}
-use Rattle.mz_num.specs.Places.{sum_below, greatest_below}
-use Rattle.mz_model.specs.Targets.{counted}
+use Rattle.mz_model.specs.Amounts.{total_of}
 use Rattle.mz_bounds.specs.declared.bounds.Bounds.{Bounds}
 use Rattle.mz_project.specs.declared.area.Area.{Area}
 use Rattle.mz_project.specs.declared.fault.InputFault.{InputFault}
 use Rattle.mz_project.specs.declared.fault.InputFault.TheVariants.{Sum, Weight}
-use Rattle.mz_project.specs.declared.fault.ReadFault.{ReadFault}
-use Rattle.mz_project.specs.declared.fault.ReadFault.TheVariants.{Input, NoMemory}
 use Rattle.mz_project.specs.declared.fault.What.{What}
 use Rattle.mz_project.specs.declared.fault.What.TheVariants.{Cost, Rate, Boundary, Edge, Amount, Gain, Level}
 use Rattle.mz_project.specs.declared.region.Region.{Region}
 use Rattle.mz_project.specs.declared.targets.Targets.{Targets}
-use Rattle.mz_project.specs.Parts.{levels_of, parts_of, rates_of, target_rows_of, term_of}
+use Rattle.mz_project.specs.Levels.{levels_of}
+use Rattle.mz_project.specs.Parts.{parts_of}
+use Rattle.mz_project.specs.Rates.{rates_of, greatest_term}
+use Rattle.mz_project.specs.TargetRows.{target_rows_of, id_of_row}
+use Rattle.mz_project.specs.Costs.{raw_cost, greatest_cost}
+use Rattle.mz_project.specs.Gains.{greatest_gain}
 
 -- more than 10^18
 abbrev pub is_above : ℕ → Bool
@@ -29,14 +32,6 @@ is_above quantity = nat_lt greatest_quantity quantity
 abbrev pub some_below : ℕ → (ℕ → Bool) → Bool
 some_below zero test = false
 some_below (suc n) test = some_below n test || test n
-
--- all costs of all units
-abbrev pub raw_cost : Area → ℕ
-raw_cost area = sum area.units.costs
-
--- what the units cost in their dearest zones
-abbrev pub greatest_cost : Area → ℕ
-greatest_cost area = sum_below (length area.units.ids) (λ unit. greatest_below (length area.zones.ids) (term_of area unit))
 
 -- a cost is above its limit
 unfoldable pub costs_are_above : Area → Bool
@@ -48,27 +43,19 @@ rates_are_above rates = list_any is_above rates
 
 -- the length of a pair is, or of a unit's outer boundary
 unfoldable pub lengths_are_above : Bounds → Bool
-lengths_are_above bounds = list_any (λ (edge : ℕ × ℕ × ℕ). is_above edge.2) bounds.edges || list_any is_above bounds.outer
-
--- the term of a length under the greatest rate
-abbrev pub greatest_term : List ℕ → ℕ → ℕ
-greatest_term rates len = round (len * greatest_below (length rates) (slice_index rates)) million
+lengths_are_above bounds =
+    list_any (λ (edge : ℕ × ℕ × ℕ). is_above edge.2) bounds.edges || list_any is_above bounds.outer
 
 -- such a term is
 unfoldable pub terms_are_above : List ℕ → List (ℕ × ℕ × ℕ) → List ℕ → Bool
-terms_are_above rates edges outer = list_any (λ (edge : ℕ × ℕ × ℕ). is_above (greatest_term rates edge.2)) edges || list_any (λ len. is_above (greatest_term rates len)) outer
+terms_are_above rates edges outer =
+    list_any (λ (edge : ℕ × ℕ × ℕ). is_above (greatest_term rates edge.2)) edges
+    || list_any (λ len. is_above (greatest_term rates len)) outer
 
 -- the total of a feature is
 unfoldable pub totals_are_above : Targets → Bool
-totals_are_above targets = some_below (length targets.features.ids) (λ feature. is_above (total_of targets.amounts feature))
-
--- what a unit gains for a row in a zone
-abbrev pub gain_in : Region → Target → ℕ → ℕ → ℕ
-gain_in region row unit zone = counted row.zone (amount_of region.targets.amounts unit row.feature) (slice_index region.targets.fractions (zone * length region.targets.features.ids + row.feature)) zone
-
--- what a row holds where each unit has its best zone
-abbrev pub greatest_gain : Region → Target → ℕ
-greatest_gain region row = sum_below (length region.area.units.ids) (λ unit. greatest_below (length region.area.zones.ids) (gain_in region row unit))
+totals_are_above targets =
+    some_below (length targets.features.ids) (λ feature. is_above (total_of targets.amounts feature))
 
 -- such a gain is
 unfoldable pub gains_are_above : Region → Bool
@@ -82,49 +69,46 @@ levels_are_above targets = list_any is_above (levels_of targets)
 unfoldable pub heavy_row : Region → Option Target
 heavy_row region = find (λ row. is_above row.weight) (target_rows_of region)
 
--- the id of a row's feature
-abbrev pub id_of_row : Region → Target → ℕ
-id_of_row region row = slice_index region.targets.features.ids row.feature
+-- the fault of a quantity, where it is above its limit
+abbrev pub fault_above : What → Bool → Option InputFault
+fault_above what false = None
+fault_above what true = Some (Sum what)
 
--- goes on, unless the quantity is above its limit
-abbrev pub within : {X : Type 0} → What → Bool → Result X InputFault → Result X InputFault
-within what above next = if above then Err (Sum what) else next
+-- the fault of a row that is too heavy
+abbrev pub fault_of_heavy : Region → Option Target → Option InputFault
+fault_of_heavy region None = None
+fault_of_heavy region (Some row) = Some (Weight (id_of_row region row))
 
--- the parts, unless a row is too heavy
-abbrev pub unless_heavy : {X : Type 0} → Region → Option Target → X → Result X InputFault
-unless_heavy region None parts = Ok parts
-unless_heavy region (Some row) parts = Err (Weight (id_of_row region row))
+-- the limits of costs and boundaries in their order, each with its fault where it is passed
+abbrev pub cost_limits : Params → Region → List (Option InputFault)
+cost_limits params region =
+    fault_above Cost (costs_are_above region.area)
+    ∷ fault_above Rate (rates_are_above (rates_of params region))
+    ∷ fault_above Boundary (lengths_are_above region.boundaries.bounds)
+    ∷ fault_above Edge
+    (terms_are_above (rates_of params region) region.boundaries.bounds.edges region.boundaries.bounds.outer)
+    ∷ []
 
--- the limits of costs and boundaries, in their order
-unfoldable pub within_costs : {X : Type 0} → Params → Region → Result X InputFault → Result X InputFault
-within_costs params region next =
-    within Cost (costs_are_above region.area)
-    (within Rate (rates_are_above (rates_of params region))
-    (within Boundary (lengths_are_above region.boundaries.bounds)
-    (within Edge (terms_are_above (rates_of params region) region.boundaries.bounds.edges region.boundaries.bounds.outer) next)))
+-- the limits of amounts and target rows in their order
+abbrev pub target_limits : Region → List (Option InputFault)
+target_limits region =
+    fault_above Amount (totals_are_above region.targets)
+    ∷ fault_above Gain (gains_are_above region)
+    ∷ fault_above Level (levels_are_above region.targets)
+    ∷ fault_of_heavy region (heavy_row region)
+    ∷ []
 
--- the limits of amounts and target rows, in their order, and the weights behind them
-unfoldable pub within_targets : {X : Type 0} → Region → X → Result X InputFault
-within_targets region parts =
-    within Amount (totals_are_above region.targets)
-    (within Gain (gains_are_above region)
-    (within Level (levels_are_above region.targets)
-    (unless_heavy region (heavy_row region) parts)))
+-- the fault of the first limit that is passed
+abbrev pub first_passed : List (Option InputFault) → Option InputFault
+first_passed [] = None
+first_passed (limit ∷ limits) = option_or limit (first_passed limits)
 
--- the parts, unless a quantity is above its limit
+-- what was made, unless a limit is passed
+abbrev pub unless_passed : {X : Type 0} → Option InputFault → X → Result X InputFault
+unless_passed None x = Ok x
+unless_passed (Some fault) x = Err fault
+
+-- the parts, unless a limit is passed
 unfoldable pub limited_parts : Params → Region → Result Parts InputFault
-limited_parts params region = within_costs params region (within_targets region (parts_of params region))
-
--- the answer is what was worked out, or that the quantity is above its limit
-abbrev pub Limited : {X : Type 0} → What → Bool → X → Result X ReadFault → Type 0
-Limited what above x (Ok y) = (above ≡ false) × (y ≡ x)
-Limited what above x (Err (Input (Sum other))) = (above ≡ true) × (other ≡ what)
-Limited what above x (Err NoMemory) = Unit {0}
-Limited what above x (Err fault) = ⊥
-
--- the answer is the rows, or the first one whose weight is above the limit
-abbrev pub Weighed : Region → Result (List Target) ReadFault → Type 0
-Weighed region (Ok rows) = (heavy_row region ≡ None) × (rows ≡ target_rows_of region)
-Weighed region (Err (Input (Weight id))) = (row : Target) × (heavy_row region ≡ Some row) × (id ≡ id_of_row region row)
-Weighed region (Err NoMemory) = Unit {0}
-Weighed region (Err fault) = ⊥
+limited_parts params region =
+    unless_passed (first_passed (cost_limits params region ++ target_limits region)) (parts_of params region)

@@ -1,5 +1,6 @@
 -- What is read of the files: their names in order, and what comes of them.
-use Rattle.std.specs.Prelude.{◌≡◌, ℕ, nat_lt, if◌then◌else◌, List, [], ◌∷◌, ◌++◌, length, Option, Some, None, Result, Ok, Err}
+use Rattle.std.specs.Prelude.{◌≡◌, ℕ, nat_lt, if◌then◌else◌, List, [], ◌∷◌, ◌++◌, length, Option, Some, None, Result}
+use Rattle.std.specs.Prelude.{Ok, Err}
 use Rattle.std.specs.List.{All}
 use Rattle.std.specs.FinMap.{get}
 use Rattle.mz_num.specs.Limits.{most_file_bytes}
@@ -45,7 +46,8 @@ taken result = record { names = []; outcome = outcome_of result }
 -- the bytes of a file that may be too long
 abbrev pub bytes_of : List ℕ → Which → Option (List ℕ) → Outcome (List ℕ)
 bytes_of name which None = Missing name
-bytes_of name which (Some bytes) = if nat_lt most_file_bytes (length bytes) then Refused (TooLong which) else Given bytes
+bytes_of name which (Some bytes) =
+    if nat_lt most_file_bytes (length bytes) then Refused (TooLong which) else Given bytes
 
 abbrev pub file_read : Files → List ℕ → Which → Reads (List ℕ)
 file_read files name which = record { names = name ∷ []; outcome = bytes_of name which (get files name) }
@@ -61,16 +63,20 @@ of_rows which (Err fault) = Err (OfRow which fault)
 
 -- the wanted columns of a file
 abbrev pub table_read : Files → List ℕ → Which → List Want → Reads (List Row)
-table_read files name which wants = then_read (file_read files name which) (λ bytes. taken (of_table which (read_table bytes wants)))
+table_read files name which wants =
+    then_read (file_read files name which) (λ bytes. taken (of_table which (read_table bytes wants)))
 
 -- what a reader makes of the rows of the file of that name
-abbrev pub rows_read : {X : Type 0} → Files → List ℕ → List ℕ → Which → List Want → (List Row → Result X RowFault) → Reads X
-rows_read files folder name which wants reader = then_read (table_read files (file_in folder name) which wants) (λ rows. taken (of_rows which (reader rows)))
+abbrev pub rows_read : {X : Type 0}
+    → Files → List ℕ → List ℕ → Which → List Want → (List Row → Result X RowFault) → Reads X
+rows_read files folder name which wants reader =
+    then_read (table_read files (file_in folder name) which wants) (λ rows. taken (of_rows which (reader rows)))
 
 -- the table of a file that may be given
 abbrev pub table_by_name : Files → List ℕ → Option (List ℕ) → Which → Reads (Option (List Row))
 table_by_name files folder None which = record { names = []; outcome = Given None }
-table_by_name files folder (Some name) which = then_read (table_read files (file_in folder name) which (columns_of which)) (λ rows. taken (Ok (Some rows)))
+table_by_name files folder (Some name) which =
+    then_read (table_read files (file_in folder name) which (columns_of which)) (λ rows. taken (Ok (Some rows)))
 
 abbrev pub table_given : Params → Which → Files → Reads (Option (List Row))
 table_given params which files = table_by_name files params.input_dir (file_named params which) which
@@ -81,7 +87,8 @@ made_or which default reader None = Ok default
 made_or which default reader (Some rows) = of_rows which (reader rows)
 
 abbrev pub rows_or_default : {X : Type 0} → Params → Which → X → (List Row → Result X RowFault) → Files → Reads X
-rows_or_default params which default reader files = then_read (table_given params which files) (λ table. taken (made_or which default reader table))
+rows_or_default params which default reader files =
+    then_read (table_given params which files) (λ table. taken (made_or which default reader table))
 
 -- each row of a table has so many fields
 abbrev pub IsWide : ℕ → Option (List Row) → Type 0

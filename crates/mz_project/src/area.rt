@@ -6,9 +6,10 @@ ghost use Rattle.mz_rows.specs.ByZone.{AreByZone};
 ghost use Rattle.mz_units.specs.Named.{IsNamedList, costs_of, zones_of};
 ghost use Rattle.mz_units.specs.UnitRows.{IsUnitList, units_of};
 ghost use Rattle.mz_units.specs.ZoneCosts.{multipliers_of};
-ghost use Rattle.mz_project.specs.Area.{area_read, available_place, costs_read, default_costs as costs_by_default, default_zones as zones_by_default, multipliers_read, units_read, zones_read};
+ghost use Rattle.mz_project.specs.Area.{area_read, available_place, costs_read, default_costs as costs_by_default};
+ghost use Rattle.mz_project.specs.Area.{default_zones as zones_by_default, multipliers_read, units_read, zones_read};
 ghost use Rattle.mz_project.specs.Defaults.{ones_outside as ones_by_zone};
-ghost use Rattle.mz_project.specs.Fits.{FitsArea};
+ghost use Rattle.mz_project.specs.Area.{FitsArea};
 ghost use Rattle.mz_project.specs.ReadAs.{ReadAs, TakenAs};
 ghost use Rattle.mz_project.specs.Reads.{IsWide, made_or, of_rows};
 ghost use Rattle.mz_project.specs.declared.fault.Which.TheVariants as file;
@@ -25,16 +26,20 @@ use mz_units::{
 };
 use std::alloc::Global;
 
-/// What the files up to that of the zone costs give.
+/// The planning units and what they cost by zone: what the files of zones, costs, units and zone costs
+/// give.
 #[derive(Drop)]
-pub(crate) struct Area {
-    pub(crate) zones: ZoneList,
-    /// The place of the available zone.
-    pub(crate) available: u8,
-    pub(crate) costs: CostList,
-    pub(crate) units: UnitList,
-    /// In millionths, at `zone * costs + cost`.
-    pub(crate) multipliers: Items<u64>,
+pub struct Area {
+    /// The zones; without a file an available and a reserved one.
+    pub zones: ZoneList,
+    /// The place of the available zone, which AVAILABLEZONE names.
+    pub available: u8,
+    /// The costs; without a file there is one.
+    pub costs: CostList,
+    /// The planning units, with their costs in ten-thousandths.
+    pub units: UnitList,
+    /// What a zone multiplies a cost by, in millionths, at `zone * costs + cost`.
+    pub multipliers: Items<u64>,
 }
 
 /// Reads the files of zones, costs, units and zone costs, in this order, as far as they are given.

@@ -3,8 +3,11 @@ ghost use Rattle.std.specs.Prelude.{◌≡◌, ◌≤◌, IfOk, length};
 ghost use Rattle.mz_num.specs.Limits.{most_zones};
 ghost use Rattle.mz_bounds.specs.Bounds.{AreFitBounds, bounds_of};
 ghost use Rattle.mz_bounds.specs.ZoneBounds.{AreZoneBounds, zone_bounds_of};
-ghost use Rattle.mz_project.specs.Boundaries.{boundaries_read, bounds_read, default_boundary_cost, default_boundary_costs as costs_by_default, no_bounds as none_of_bounds, zone_bounds_read};
-ghost use Rattle.mz_project.specs.Fits.{FitsArea, FitsBoundaries};
+ghost use Rattle.mz_project.specs.Boundaries.{boundaries_read, bounds_read, default_boundary_cost};
+ghost use Rattle.mz_project.specs.Boundaries.{default_boundary_costs as costs_by_default};
+ghost use Rattle.mz_project.specs.Boundaries.{no_bounds as none_of_bounds, zone_bounds_read};
+ghost use Rattle.mz_project.specs.Area.{FitsArea};
+ghost use Rattle.mz_project.specs.Boundaries.{FitsBoundaries};
 ghost use Rattle.mz_project.specs.ReadAs.{ReadAs, TakenAs};
 ghost use Rattle.mz_project.specs.Reads.{IsWide, made_or};
 ghost use Rattle.mz_project.specs.declared.fault.Which.TheVariants as file;
@@ -20,12 +23,14 @@ use mz_shelf::Shelf;
 use mz_tables::{Ids, Table};
 use std::alloc::Global;
 
-/// What the files of boundaries and of zone boundary costs give.
+/// The boundaries between units and round them, and what they count: what the files of boundaries and of
+/// zone boundary costs give.
 #[derive(Drop)]
-pub(crate) struct Boundaries {
-    pub(crate) bounds: Bounds,
+pub struct Boundaries {
+    /// The lengths, in ten-thousandths.
+    pub bounds: Bounds,
     /// What a boundary between two zones counts, in millionths, at `zone * zones + zone`.
-    pub(crate) costs: Items<u64>,
+    pub costs: Items<u64>,
 }
 
 /// Reads the files of boundaries and of zone boundary costs, as far as they are given.

@@ -1,7 +1,8 @@
 //! The table of the input files: the word, the name and the columns of each.
 ghost use Rattle.std.specs.Prelude.{◌≡◌, ◌++◌, map, option_copied, IfOk, OnOk};
 ghost use Rattle.mz_tables.specs.Wants.{want_of};
-ghost use Rattle.mz_project.specs.InputFiles.{column_name, columns_of as columns_wanted, file_named as name_given, is_cost_column as is_cost, word_of_file};
+ghost use Rattle.mz_project.specs.InputFiles.{column_name, columns_of as columns_wanted, file_named as name_given};
+ghost use Rattle.mz_project.specs.InputFiles.{is_cost_column as is_cost, word_of_file};
 
 use crate::fault::Which;
 use mz_bounds::{bound_columns, zone_bound_columns};

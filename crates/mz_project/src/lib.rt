@@ -17,7 +17,11 @@ mod region;
 mod sets;
 mod targets;
 
+pub use area::Area;
+pub use boundaries::Boundaries;
 pub use fault::{InputFault, ReadFault, What, Which};
 pub use input_files::{file_word, push_column_name};
 pub use parameters::read_params;
 pub use project::read_project;
+pub use region::Region;
+pub use targets::Targets;

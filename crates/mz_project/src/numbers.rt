@@ -1,6 +1,6 @@
 //! The numbers of a problem in 64 bits, each within its limit.
 ghost use Rattle.std.specs.Prelude.{◌≡◌, false, IfOk};
-ghost use Rattle.mz_project.specs.Fits.{FitsRegion};
+ghost use Rattle.mz_project.specs.Region.{FitsRegion};
 ghost use Rattle.mz_project.specs.Limits.{costs_are_above};
 ghost use Rattle.mz_project.specs.Numbers.{CostsJudged, NumbersJudged, TargetsJudged, id_lists_of};
 
@@ -77,7 +77,7 @@ fn limited_cost_numbers(
     ensures { CostsJudged params.now region.now result }
 {
     let terms = limited_costs(alloc, &region.area)?;
-    let rates = limited_rates(alloc, region.boundaries.costs.as_slice(), params.blm)?;
+    let rates = limited_rates(alloc, params, region)?;
     let lengths = limited_lengths(alloc, &region.boundaries.bounds)?;
     limited_terms(&lengths, rates.as_slice())?;
     Ok(CostNumbers {

@@ -1,7 +1,7 @@
 //! The parts of the problem that the files give.
 ghost use Rattle.std.specs.Prelude.{◌≡◌, IfOk};
 ghost use Rattle.mz_model.specs.Valid.{IsValid};
-ghost use Rattle.mz_project.specs.Fits.{FitsRegion};
+ghost use Rattle.mz_project.specs.Region.{FitsRegion};
 ghost use Rattle.mz_project.specs.Limits.{limited_parts as limited};
 ghost use Rattle.mz_project.specs.Numbers.{parts_with};
 ghost use Rattle.mz_project.specs.ReadAs.{TakenAs};

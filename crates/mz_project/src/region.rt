@@ -1,6 +1,6 @@
 //! All that the files behind the parameter file give.
 ghost use Rattle.std.specs.Prelude.{IfOk};
-ghost use Rattle.mz_project.specs.Fits.{FitsRegion};
+ghost use Rattle.mz_project.specs.Region.{FitsRegion};
 ghost use Rattle.mz_project.specs.ReadAs.{ReadAs};
 ghost use Rattle.mz_project.specs.Region.{region_read};
 
@@ -14,14 +14,17 @@ use mz_params::Params;
 use mz_shelf::Shelf;
 use std::alloc::Global;
 
-/// What the files of a project give, before its limits are tested.
+/// All that the files of a project give, before its limits are tested.
 #[derive(Drop)]
-pub(crate) struct Region {
-    pub(crate) area: Area,
-    pub(crate) targets: Targets,
+pub struct Region {
+    /// The planning units and what they cost.
+    pub area: Area,
+    /// What is asked of a plan.
+    pub targets: Targets,
     /// The allowed zones of each unit, as a set of bits by place.
-    pub(crate) allowed: Items<u64>,
-    pub(crate) boundaries: Boundaries,
+    pub allowed: Items<u64>,
+    /// The boundaries, and what they count.
+    pub boundaries: Boundaries,
 }
 
 /// Reads the files that the parameters give, one after another.

@@ -3,7 +3,8 @@ ghost use Rattle.std.specs.Prelude.{◌≡◌, ◌<◌, ◌≤◌, IfOk, length}
 ghost use Rattle.mz_num.specs.Limits.{most_zones};
 ghost use Rattle.mz_units.specs.Locks.{locked_sets_of};
 ghost use Rattle.mz_units.specs.ZoneSets.{zone_sets_of};
-ghost use Rattle.mz_project.specs.Fits.{AreZoneSets, FitsArea};
+ghost use Rattle.mz_project.specs.Sets.{AreZoneSets};
+ghost use Rattle.mz_project.specs.Area.{FitsArea};
 ghost use Rattle.mz_project.specs.ReadAs.{ReadAs, TakenAs};
 ghost use Rattle.mz_project.specs.Reads.{IsWide, made_or};
 ghost use Rattle.mz_project.specs.Sets.{allowed_read, every_zone, locks_read, zone_sets_read};

@@ -7,10 +7,12 @@ ghost use Rattle.mz_targets.specs.Contribs.{fractions_of};
 ghost use Rattle.mz_targets.specs.Features.{IsFeatureList, features_of};
 ghost use Rattle.mz_targets.specs.ZoneTargets.{AreZoneTargets, zone_targets_of};
 ghost use Rattle.mz_project.specs.Defaults.{ones_outside as ones_by_zone};
-ghost use Rattle.mz_project.specs.Fits.{FitsArea, FitsTargets};
+ghost use Rattle.mz_project.specs.Area.{FitsArea};
+ghost use Rattle.mz_project.specs.Targets.{FitsTargets};
 ghost use Rattle.mz_project.specs.ReadAs.{ReadAs, TakenAs};
 ghost use Rattle.mz_project.specs.Reads.{IsWide, made_or};
-ghost use Rattle.mz_project.specs.Targets.{amounts_read, features_read, fractions_read, no_features as none_of_features, targets_read, zone_targets_read};
+ghost use Rattle.mz_project.specs.Targets.{amounts_read, features_read, fractions_read};
+ghost use Rattle.mz_project.specs.Targets.{no_features as none_of_features, targets_read, zone_targets_read};
 ghost use Rattle.mz_project.specs.declared.fault.Which.TheVariants as file;
 
 use crate::area::Area;
@@ -26,15 +28,18 @@ use mz_targets::{
 };
 use std::alloc::Global;
 
-/// What the files of features, amounts, contributions and zone targets give.
+/// What is asked of a plan, and what the units have of it: what the files of features, amounts,
+/// contributions and zone targets give.
 #[derive(Drop)]
-pub(crate) struct Targets {
-    pub(crate) features: FeatureList,
-    /// Unit, feature and sum of amounts, by place, in order.
-    pub(crate) amounts: Items<(u32, u32, u128)>,
+pub struct Targets {
+    /// The features, each with its target or proportion and its penalty factor.
+    pub features: FeatureList,
+    /// Unit, feature and sum of amounts in ten-thousandths, by place, in order.
+    pub amounts: Items<(u32, u32, u128)>,
     /// The part of a feature's amounts that counts in a zone, in millionths, at `zone * features + feature`.
-    pub(crate) fractions: Items<u64>,
-    pub(crate) zone_targets: Items<ZoneTarget>,
+    pub fractions: Items<u64>,
+    /// The targets of features in single zones, in the order of the file.
+    pub zone_targets: Items<ZoneTarget>,
 }
 
 /// Reads the files of features, amounts, contributions and zone targets, in this order, as far as they

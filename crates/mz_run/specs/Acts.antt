@@ -1,5 +1,6 @@
 -- What the program writes and says for its job, in order.
-use Rattle.std.specs.Prelude.{ℕ, ◌-◌, ◌==◌, if◌then◌else◌, List, [], ◌∷◌, ◌++◌, length, map, get_or, codes, Option, None, Some}
+use Rattle.std.specs.Prelude.{ℕ, ◌-◌, ◌==◌, if◌then◌else◌, List, [], ◌∷◌, ◌++◌, length, map, get_or, codes, Option}
+use Rattle.std.specs.Prelude.{None, Some}
 use Rattle.std.specs.List.{flat_map}
 use Rattle.mz_shelf.specs.Act.{Act}
 use Rattle.mz_shelf.specs.Act.Act.{Say, Write}
@@ -42,7 +43,8 @@ run_acts job trail = Say (run_text job trail) ∷ []
 -- what is done with the best run and its plan, and with what the watchers report
 abbrev pub best_acts : Job → List ℕ → Best → List ℕ → List Act
 best_acts job reports best plan =
-    file_if_asked job.params job.params.save_best (codes "_best") (solution_text job.problem plan) ++ Say (closing_text best reports) ∷ []
+    file_if_asked job.params job.params.save_best (codes "_best") (solution_text job.problem plan)
+    ++ Say (closing_text best reports) ∷ []
 
 abbrev pub acts_for_best : Job → List RunTrail → List ℕ → Option Best → List Act
 acts_for_best job trails reports None = []
@@ -60,4 +62,5 @@ acts_of_runs job trails = opening_acts job ++ acts_of_trails job trails
 
 -- what is done with these trails: the closing comes after the last run alone
 abbrev pub acts_of : Job → List RunTrail → List ℕ → List Act
-acts_of job trails reports = acts_of_runs job trails ++ (if length trails == job.params.reps then closing_acts job trails reports else [])
+acts_of job trails reports =
+    acts_of_runs job trails ++ (if length trails == job.params.reps then closing_acts job trails reports else [])

@@ -1,5 +1,6 @@
 -- The words of the command line, and what they ask for.
-use Rattle.std.specs.Prelude.{ℕ, ◌&&◌, not, if◌then◌else◌, List, [], ◌∷◌, map, codes, string_bytes, String, Option, Some, None}
+use Rattle.std.specs.Prelude.{ℕ, ◌&&◌, not, if◌then◌else◌, List, [], ◌∷◌, map, codes, string_bytes, String, Option}
+use Rattle.std.specs.Prelude.{Some, None}
 use Rattle.std.specs.Global.{Global}
 use Rattle.std.specs.Str.{bytes_eq}
 use Rattle.mz_shelf.specs.Act.{Act}
@@ -12,7 +13,8 @@ pub data Form : Type 0 where
 
 -- two words, the first not `gen` and the second `1`, are a file and one worker; no other words have a form
 abbrev pub form_of_words : List (List ℕ) → Option Form
-form_of_words (file ∷ workers ∷ []) = if not (bytes_eq file (codes "gen")) && bytes_eq workers (codes "1") then Some (File file 1) else None
+form_of_words (file ∷ workers ∷ []) =
+    if not (bytes_eq file (codes "gen")) && bytes_eq workers (codes "1") then Some (File file 1) else None
 form_of_words words = None
 
 -- the same of the words as the program has them

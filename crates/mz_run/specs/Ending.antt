@@ -38,7 +38,8 @@ pub data Stage (job : Job) (reports : List ℕ) : List RunTrail → List Act →
       → Stage job reports trails (acts_of_runs job trails) (closing_acts job trails reports)
 
 -- a call on this name failed in the stage of these trails, and nothing was tried behind it
-pub record FailedInStage (job : Job) (trails : List RunTrail) (reports : List ℕ) (name : List ℕ) (old new : State) : Type 0 where
+pub record FailedInStage (job : Job) (trails : List RunTrail) (reports : List ℕ)
+    (name : List ℕ) (old new : State) : Type 0 where
   pub done : List Act
   pub acts : List Act
   pub stage : Stage job reports trails done acts

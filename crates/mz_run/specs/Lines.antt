@@ -21,13 +21,16 @@ opening_text job =
 -- a run's number, the score of its plan, and the number of its entries
 unfoldable pub run_text : Job → RunTrail → List ℕ
 run_text job trail =
-    codes "run " ++ decimal trail.run ++ codes " score " ++ ten4_text trail.score.total ++ codes " entries " ++ decimal (length trail.turns) ++ codes "\n"
+    codes "run " ++ decimal trail.run ++ codes " score " ++ ten4_text trail.score.total ++ codes " entries "
+    ++ decimal (length trail.turns) ++ codes "\n"
 
 -- the number of a watcher, from 1, and its report
 abbrev pub report_line : List ℕ → ℕ → List ℕ
-report_line reports place = codes "watcher " ++ decimal (place + 1) ++ codes " " ++ decimal (slice_index reports place) ++ codes "\n"
+report_line reports place =
+    codes "watcher " ++ decimal (place + 1) ++ codes " " ++ decimal (slice_index reports place) ++ codes "\n"
 
 -- the best run and the score of its plan, and then a line for each watcher's report
 unfoldable pub closing_text : Best → List ℕ → List ℕ
 closing_text best reports =
-    codes "best " ++ decimal best.run ++ codes " score " ++ ten4_text best.score.total ++ codes "\n" ++ concat (list_below (length reports) (report_line reports))
+    codes "best " ++ decimal best.run ++ codes " score " ++ ten4_text best.score.total ++ codes "\n"
+    ++ concat (list_below (length reports) (report_line reports))

@@ -20,7 +20,8 @@ abbrev pub no_reports : List ℕ
 no_reports = []
 
 -- with a job: it was prepared; then it was worked at, and its trails are those of its first runs
-pub record EndsWithJob (form : Option Form) (chance : ℕ) (old new : State) (status : Status) (trails : List RunTrail) (job : Job) : Type 0 where
+pub record EndsWithJob (form : Option Form) (chance : ℕ) (old new : State)
+    (status : Status) (trails : List RunTrail) (job : Job) : Type 0 where
   pub between : State
   pub prepared : Prepared form chance old between job
   pub worked : Worked job trails no_reports between new status
@@ -28,7 +29,8 @@ pub record EndsWithJob (form : Option Form) (chance : ℕ) (old new : State) (st
   pub few : length trails ≤ job.params.reps
 
 -- without a job: nothing was done for one, and there are no trails
-pub record EndsWithoutJob (form : Option Form) (old new : State) (status : Status) (trails : List RunTrail) : Type 0 where
+pub record EndsWithoutJob (form : Option Form) (old new : State)
+    (status : Status) (trails : List RunTrail) : Type 0 where
   pub refused : NotPrepared form old new status
   pub none : trails ≡ []
 
@@ -78,7 +80,8 @@ pub record IsAcceptedInput (form : Form) (old : State) : Type 0 where
 
 -- the answer is one that the input may have, where the files are told
 abbrev pub AnswersInput : Form → State → Status → Type 0
-AnswersInput form old status = IfStarted form old (λ files. IsAnswerTo (asked_of (parameter_file form) files).outcome status)
+AnswersInput form old status =
+    IfStarted form old (λ files. IsAnswerTo (asked_of (parameter_file form) files).outcome status)
 
 -- accepted files, and no count that rose, come to a good end or to want of memory
 abbrev pub Completes : Form → State → State → Status → Type 0

@@ -39,7 +39,8 @@ built_params params = unless_unbuilt (unbuilt_key params) params
 
 -- the problem of parameters, with them
 abbrev pub parts_asked : Params → Files → Reads Project
-parts_asked params files = then_read (project_read params files) (λ (parts : Parts). taken (Ok (project_of params parts)))
+parts_asked params files =
+    then_read (project_read params files) (λ (parts : Parts). taken (Ok (project_of params parts)))
 
 -- the project of read parameters, unless a key asks for what isn't built: this comes before another file is read
 abbrev pub project_asked : Params → Files → Reads Project

@@ -38,7 +38,8 @@ KeepsBest job trails None = best_of (scores_of trails) ≡ None
 KeepsBest job trails (Some kept) = IsBestRun job trails kept
 
 -- one run more: its trail stands behind the others, its acts were done, and this is the run with its last plan
-pub record RanOnce (job : Job) (run : ℕ) (before after : List RunTrail) (old new : State) (last : BestRun) : Type 0 where
+pub record RanOnce (job : Job) (run : ℕ) (before after : List RunTrail)
+    (old new : State) (last : BestRun) : Type 0 where
   pub trail : RunTrail
   pub kept : after ≡ before ++ trail ∷ []
   pub is_trail : IsTrail job run trail
@@ -50,11 +51,13 @@ pub record RanOnce (job : Job) (run : ℕ) (before after : List RunTrail) (old n
 -- a run that stopped: memory ended it before it had a trail, or it has one and its acts stopped
 pub data RunStopped (job : Job) (run : ℕ) (before after : List RunTrail) (old new : State) (stop : Stop) : Type 0 where
   no_trail : stop ≡ NoMemory → after ≡ before → new ≡ old → RunStopped job run before after old new stop
-  in_acts : (trail : RunTrail) → after ≡ before ++ trail ∷ [] → IsTrail job run trail → Stopped (run_acts job trail) old new stop
+  in_acts : (trail : RunTrail) → after ≡ before ++ trail ∷ [] → IsTrail job run trail
+      → Stopped (run_acts job trail) old new stop
       → RunStopped job run before after old new stop
 
 -- the first runs were done
-pub record RanFirst (job : Job) (count : ℕ) (trails : List RunTrail) (old new : State) (kept : Option BestRun) : Type 0 where
+pub record RanFirst (job : Job) (count : ℕ) (trails : List RunTrail)
+    (old new : State) (kept : Option BestRun) : Type 0 where
   pub runs : AreTrails job trails
   pub whole : length trails ≡ count
   pub acts : DidAll (acts_of_trails job trails) old new
@@ -63,8 +66,10 @@ pub record RanFirst (job : Job) (count : ℕ) (trails : List RunTrail) (old new 
 -- the runs stopped: memory ended them between two, or one stopped in its acts
 pub data StopsIn (job : Job) (trails : List RunTrail) (old new : State) (stop : Stop) : Type 0 where
   between_runs : stop ≡ NoMemory → DidAll (acts_of_trails job trails) old new → StopsIn job trails old new stop
-  in_one : (earlier : List RunTrail) (trail : RunTrail) (between : State) → trails ≡ earlier ++ trail ∷ [] → length earlier < job.params.reps
-      → DidAll (acts_of_trails job earlier) old between → Stopped (run_acts job trail) between new stop → StopsIn job trails old new stop
+  in_one : (earlier : List RunTrail) (trail : RunTrail) (between : State)
+      → trails ≡ earlier ++ trail ∷ [] → length earlier < job.params.reps
+      → DidAll (acts_of_trails job earlier) old between → Stopped (run_acts job trail) between new stop
+      → StopsIn job trails old new stop
 
 pub record RunsStopped (job : Job) (trails : List RunTrail) (old new : State) (stop : Stop) : Type 0 where
   pub runs : AreTrails job trails

@@ -44,11 +44,13 @@ number_text num_fault.TooLarge = codes "too large"
 -- why a row is refused, from its line on
 abbrev pub row_text : Which → RowFault → List ℕ
 row_text which (row_fault.TooMany line) = decimal line ++ codes " too many"
-row_text which (row_fault.BadNumber line place fault) = decimal line ++ codes " bad number in " ++ column_name which place ++ codes ": " ++ number_text fault
+row_text which (row_fault.BadNumber line place fault) =
+    decimal line ++ codes " bad number in " ++ column_name which place ++ codes ": " ++ number_text fault
 row_text which (row_fault.LeftOut line place) = decimal line ++ codes " left out " ++ column_name which place
 row_text which (row_fault.Unknown line place) = decimal line ++ codes " unknown " ++ column_name which place
 row_text which (row_fault.Repeated line) = decimal line ++ codes " repeated"
-row_text which (row_fault.LockConflict line id) = decimal line ++ codes " unit " ++ decimal id ++ codes " is locked outside its zones"
+row_text which (row_fault.LockConflict line id) =
+    decimal line ++ codes " unit " ++ decimal id ++ codes " is locked outside its zones"
 row_text which row_fault.NoMemory = []
 
 -- the word of a quantity that has a limit

@@ -11,7 +11,9 @@ use Rattle.mz_model.specs.Targets.{shortfall_of_plan}
 
 -- a unit's id and the id of its zone
 abbrev pub unit_line : Parts → List ℕ → ℕ → List ℕ
-unit_line parts plan unit = decimal (slice_index parts.unit_ids unit) ++ codes "," ++ decimal (slice_index parts.zone_ids (slice_index plan unit)) ++ codes "\n"
+unit_line parts plan unit =
+    decimal (slice_index parts.unit_ids unit) ++ codes ","
+    ++ decimal (slice_index parts.zone_ids (slice_index plan unit)) ++ codes "\n"
 
 -- a name and a number of ten-thousandths
 abbrev pub amount_line : List ℕ → ℕ → List ℕ
@@ -29,4 +31,5 @@ score_lines score shortfall =
 -- a header, a line for each unit in order, and what the plan scores and misses
 unfoldable pub solution_text : Parts → List ℕ → List ℕ
 solution_text parts plan =
-    codes "planning_unit,zone\n" ++ concat (list_below (unit_count parts) (unit_line parts plan)) ++ score_lines (score_of_plan parts plan) (shortfall_of_plan parts plan)
+    codes "planning_unit,zone\n" ++ concat (list_below (unit_count parts) (unit_line parts plan))
+    ++ score_lines (score_of_plan parts plan) (shortfall_of_plan parts plan)

@@ -3,7 +3,8 @@ use Rattle.std.specs.Prelude.{◌≡◌, Bool, not, ◌==◌, nat_lt, List, [], 
 use Rattle.std.specs.List.{find}
 use Rattle.std.specs.Option.{option_map}
 use Rattle.mz_params.specs.declared.key.Key.{Key}
-use Rattle.mz_params.specs.declared.key.Key.TheVariants.{NumReps, RunMode, SaveRun, SaveSummary, SaveTargMet, SaveSumSoln, SaveTurns}
+use Rattle.mz_params.specs.declared.key.Key.TheVariants.{NumReps, RunMode, SaveRun, SaveSummary}
+use Rattle.mz_params.specs.declared.key.Key.TheVariants.{SaveTargMet, SaveSumSoln, SaveTurns}
 use Rattle.mz_params.specs.declared.params.Params.{Params}
 use Rattle.mz_params.specs.ParamFile.{IsAccepted}
 

@@ -3,7 +3,8 @@ ghost use Rattle.std.specs.Prelude.{◌≡◌, IfOk};
 ghost use Rattle.mz_run.specs.Refusal.{text_of_status, refusal_line};
 ghost use Rattle.mz_run.specs.Ending.{Refuses, SaysLine};
 
-use crate::input_text::{input_fault_text, joined};
+use crate::input_text::input_fault_text;
+use crate::joined::joined;
 use crate::status::Status;
 use mz_num::NoMemory;
 use mz_shelf::Shelf;

@@ -7,8 +7,9 @@ mod scores;
 mod target_faults;
 
 use mz_model::Problem;
-use mz_project::{InputFault, ReadFault, read_params, read_project};
+use mz_project::{InputFault, ReadFault, What, Which, read_params, read_project};
 use mz_shelf::MemShelf;
+use mz_tables::RowFault;
 use std::alloc::Global;
 use std::test::Fail;
 
@@ -24,19 +25,30 @@ const BOUNDS: (&str, &str) = ("bound.dat", "id1,id2,boundary\n1,2,5\n2,3,7\n1,1,
 
 /// A shelf with a parameter file of these lines behind the name of the unit file, and these files.
 fn shelf_of(alloc: Global, lines: &str, files: &[(&str, &str)]) -> Result<MemShelf, Fail> {
-    let mut shelf = MemShelf::new(alloc, Vec::new(alloc), 0)?;
-    put_files(alloc, &mut shelf, lines, files)?;
+    shelf_that_fails(alloc, Vec::new(alloc), lines, files)
+}
+
+/// The same, of whose calls these fail.
+fn shelf_that_fails(
+    alloc: Global,
+    fails: Vec<u64>,
+    lines: &str,
+    files: &[(&str, &str)],
+) -> Result<MemShelf, Fail> {
+    let mut shelf = MemShelf::new(alloc, fails, 0)?;
+    put_input(alloc, &mut shelf, lines)?;
+    put_files(alloc, &mut shelf, files)?;
     Ok(shelf)
 }
 
-fn put_files(
-    alloc: Global,
-    shelf: &mut MemShelf,
-    lines: &str,
-    files: &[(&str, &str)],
-) -> Result<(), Fail> {
-    let input = format!(in alloc; "PUNAME pu.dat\n{lines}")?;
+fn put_input(alloc: Global, shelf: &mut MemShelf, lines: &str) -> Result<(), Fail> {
+    let mut input = String::from_str(alloc, "PUNAME pu.dat\n")?;
+    input.push_str(lines)?;
     shelf.put(alloc, "input.dat", input.as_bytes())?;
+    Ok(())
+}
+
+fn put_files(alloc: Global, shelf: &mut MemShelf, files: &[(&str, &str)]) -> Result<(), Fail> {
     for (name, text) in files {
         shelf.put(alloc, name, text.as_bytes())?;
     }
@@ -59,4 +71,36 @@ fn fault_of(
         Err(ReadFault::Input(fault)) => Ok(Some(fault)),
         _ => Ok(None),
     }
+}
+
+/// Whether nothing stands against the project.
+fn is_taken(alloc: Global, lines: &str, files: &[(&str, &str)]) -> Result<bool, Fail> {
+    let mut shelf = shelf_of(alloc, lines, files)?;
+    Ok(read(alloc, &mut shelf).is_ok())
+}
+
+/// Whether the project is refused for this fault.
+fn is_refused(
+    alloc: Global,
+    lines: &str,
+    files: &[(&str, &str)],
+    fault: InputFault,
+) -> Result<bool, Fail> {
+    Ok(fault_of(alloc, lines, files)? == Some(fault))
+}
+
+/// Whether the project is refused for a row of this file.
+fn has_bad_row(
+    alloc: Global,
+    lines: &str,
+    files: &[(&str, &str)],
+    which: Which,
+    fault: RowFault,
+) -> Result<bool, Fail> {
+    is_refused(alloc, lines, files, InputFault::Row(which, fault))
+}
+
+/// Whether this quantity of the project is above its limit.
+fn is_above(alloc: Global, lines: &str, files: &[(&str, &str)], what: What) -> Result<bool, Fail> {
+    is_refused(alloc, lines, files, InputFault::Sum(what))
 }

@@ -1,286 +1,323 @@
 //! Parameter files and unit files that are taken or refused.
-use crate::plain::{BEST, INPUT, SAID, UNITS, is_file, run_plain, words};
-use mz_model::{Plan, evaluate};
+use crate::left::{Left, left_by, left_on, said_by, shelf_with};
+use crate::plain::{BEST, INPUT, SAID, UNITS, run_plain, words};
+use mz_model::{Plan, Problem, evaluate};
 use mz_run::prepare;
 use mz_shelf::{MemShelf, Shelf, ShelfErr};
 use std::alloc::{AllocError, Global};
 use std::marker::Model;
 use std::test::Fail;
 
-/// A shelf with a parameter file and a unit file.
-fn files(alloc: Global, input: &[u8], units: &[u8]) -> Result<MemShelf, Fail> {
-    let mut shelf = MemShelf::new(alloc, Vec::new(alloc), 0)?;
-    shelf.put(alloc, "input.dat", input)?;
-    shelf.put(alloc, "pu.dat", units)?;
-    Ok(shelf)
+/// What a run of these two files leaves.
+fn left_of<'a>(alloc: Global, input: &'a [u8], units: &'a [u8]) -> Result<Left, Fail> {
+    left_by(alloc, &[("input.dat", input), ("pu.dat", units)])
 }
 
-/// Whether these files end with this exit status, and with these bytes said.
-fn ends(alloc: Global, input: &[u8], units: &[u8], code: u8, said: &[u8]) -> Result<bool, Fail> {
-    let mut shelf = files(alloc, input, units)?;
-    let outcome = run_plain(alloc, &mut shelf)?;
-    Ok(outcome.code == code && shelf.said() == said)
+/// Whether these two files are refused with this text.
+fn refuses<'a>(alloc: Global, input: &'a [u8], units: &'a [u8], said: &str) -> Result<bool, Fail> {
+    let left = left_of(alloc, input, units)?;
+    Ok(left.outcome.code == 2 && left.has_said(said.as_bytes()))
 }
 
-/// A parameter file that ends in this line.
-fn with_line(alloc: Global, line: &[u8]) -> Result<Vec<u8>, AllocError> {
+/// A parameter file that ends in these lines.
+fn with_lines(alloc: Global, lines: &[u8]) -> Result<Vec<u8>, AllocError> {
     let mut input = Vec::from_slice(alloc, INPUT)?;
-    input.extend_from_slice(line)?;
+    input.extend_from_slice(lines)?;
     Ok(input)
+}
+
+/// Whether the plain project with these further lines is refused with this text.
+fn refuses_lines(alloc: Global, lines: &[u8], said: &str) -> Result<bool, Fail> {
+    refuses(alloc, &with_lines(alloc, lines)?, UNITS, said)
 }
 
 #[test]
 fn a_further_line_is_refused(rt: HostRuntime) -> Result<(), Fail> {
     let alloc = rt.alloc();
-    let table = [
-        (
-            "RANDSEED 7",
-            b"refused: input: RANDSEED repeated\n".as_slice(),
-        ),
-        ("BLM x", b"refused: input: BLM bad value\n".as_slice()),
-        (
-            "costthresh 1",
-            b"refused: input: COSTTHRESH left out\n".as_slice(),
-        ),
-        (
-            "AVAILABLEZONE 3",
-            b"refused: input: AVAILABLEZONE out of range\n".as_slice(),
-        ),
-        (
-            "SAVETURNS 2\nNUMREPS 2",
-            b"refused: input: NUMREPS left out\n".as_slice(),
-        ),
-        (
-            "SAVERUN 3\nNUMREPS 2",
-            b"refused: input: NUMREPS left out\n".as_slice(),
-        ),
-    ];
-    for (line, said) in table {
-        let input = with_line(alloc, line.as_bytes())?;
-        assert!(rt; ends(alloc, &input, UNITS, 2, said)?, "{line}");
-    }
+    let available = "refused: input: AVAILABLEZONE out of range\n";
+    assert!(rt; refuses_lines(alloc, b"RANDSEED 7", "refused: input: RANDSEED repeated\n")?);
+    assert!(rt; refuses_lines(alloc, b"BLM x", "refused: input: BLM bad value\n")?);
+    assert!(rt;
+        refuses_lines(
+            alloc,
+            b"costthresh 1",
+            "refused: input: COSTTHRESH left out\n"
+        )?
+    );
+    assert!(rt; refuses_lines(alloc, b"AVAILABLEZONE 3", available)?);
     Ok(())
 }
 
 #[test]
-fn another_parameter_file_is_refused(rt: HostRuntime) -> Result<(), Fail> {
-    let table = [
-        (
-            b"RANDSEED 7\nNUMITNS 5\nSTARTTEMP 0\nRUNMODE 6\n".as_slice(),
-            b"refused: input: PUNAME missing\n".as_slice(),
-        ),
-        (
-            b"PUNAME pu.dat\nSTARTTEMP 0\nRUNMODE 4\n".as_slice(),
-            b"refused: input: RUNMODE left out\n".as_slice(),
-        ),
-        (
-            b"PUNAME pu.dat\nSTARTTEMP 0\nRUNMODE 1\n".as_slice(),
-            b"refused: input: RUNMODE left out\n".as_slice(),
-        ),
-        (
-            b"PUNAME pu.dat\nSTARTTEMP 0\n".as_slice(),
-            b"refused: input: RUNMODE left out\n".as_slice(),
-        ),
-        (
-            b"PUNAME pu.dat\nRUNMODE 6\n".as_slice(),
-            b"refused: input: STARTTEMP left out\n".as_slice(),
-        ),
-        (
-            b"PUNAME pu.dat\nNUMITNS 10000001\n".as_slice(),
-            b"refused: input: NUMITNS out of range\n".as_slice(),
-        ),
-    ];
-    for (input, said) in table {
-        assert!(rt; ends(rt.alloc(), input, UNITS, 2, said)?);
-    }
+fn the_first_key_that_is_left_out_is_named(rt: HostRuntime) -> Result<(), Fail> {
+    let said = "refused: input: NUMREPS left out\n";
+    assert!(rt; refuses_lines(rt.alloc(), b"SAVETURNS 2\nNUMREPS 2", said)?);
+    assert!(rt; refuses_lines(rt.alloc(), b"SAVERUN 3\nNUMREPS 2", said)?);
+    Ok(())
+}
+
+/// Whether this parameter file is refused with this text.
+fn refuses_input(alloc: Global, input: &[u8], said: &str) -> Result<bool, Fail> {
+    refuses(alloc, input, UNITS, said)
+}
+
+#[test]
+fn a_parameter_file_without_units_is_refused(rt: HostRuntime) -> Result<(), Fail> {
+    let input = b"RANDSEED 7\nNUMITNS 5\nSTARTTEMP 0\nRUNMODE 6\n";
+    assert!(rt; refuses_input(rt.alloc(), input, "refused: input: PUNAME missing\n")?);
     Ok(())
 }
 
 #[test]
-fn another_unit_file_is_refused(rt: HostRuntime) -> Result<(), Fail> {
-    let table = [
-        (b"".as_slice(), b"refused: units: no header\n".as_slice()),
-        (
-            b"id\n1\n".as_slice(),
-            b"refused: units: column cost 1 missing\n".as_slice(),
-        ),
-        (
-            b"cost\n1\n".as_slice(),
-            b"refused: units: column id missing\n".as_slice(),
-        ),
-        (
-            b"id,cost\n1,10\n2\n".as_slice(),
-            b"refused: units: line 3 uneven\n".as_slice(),
-        ),
-        (
-            b"id,cost\n1,10\n01,20\n".as_slice(),
-            b"refused: units: line 3 repeated\n".as_slice(),
-        ),
-        (
-            b"id,cost\n1,-5\n".as_slice(),
-            b"refused: units: line 2 bad number in cost 1: negative\n".as_slice(),
-        ),
-        (
-            b"id,cost\n1,50000000000000\n2,50000000000000.0001\n".as_slice(),
-            b"refused: limit: cost\n".as_slice(),
-        ),
-        (
-            b"id,cost\n1,50000000000000\n2,50000000000000\n3,50000000000000\n".as_slice(),
-            b"refused: limit: cost\n".as_slice(),
-        ),
-    ];
-    for (units, said) in table {
-        assert!(rt; ends(rt.alloc(), INPUT, units, 2, said)?);
-    }
+fn other_run_modes_are_left_out(rt: HostRuntime) -> Result<(), Fail> {
+    let alloc = rt.alloc();
+    let said = "refused: input: RUNMODE left out\n";
+    assert!(rt; refuses_input(alloc, b"PUNAME pu.dat\nSTARTTEMP 0\nRUNMODE 4\n", said)?);
+    assert!(rt; refuses_input(alloc, b"PUNAME pu.dat\nSTARTTEMP 0\nRUNMODE 1\n", said)?);
+    assert!(rt; refuses_input(alloc, b"PUNAME pu.dat\nSTARTTEMP 0\n", said)?);
     Ok(())
 }
 
-/// The score of a plan of a project, in ten-thousandths.
-fn score_of(alloc: Global, shelf: &mut MemShelf, zones: &[u8]) -> Result<Option<u128>, AllocError> {
-    let Ok(job) = prepare(alloc, &words(alloc, "input.dat", "1")?, 0, shelf) else {
-        return Ok(None);
-    };
-    match Plan::of(alloc, &job.problem, zones) {
-        Ok(plan) => Ok(Some(evaluate(&job.problem, &plan).total)),
-        Err(_) => Ok(None),
-    }
+#[test]
+fn a_start_that_is_to_be_found_is_left_out(rt: HostRuntime) -> Result<(), Fail> {
+    let said = "refused: input: STARTTEMP left out\n";
+    assert!(rt; refuses_input(rt.alloc(), b"PUNAME pu.dat\nRUNMODE 6\n", said)?);
+    Ok(())
 }
 
-/// The seed that is said of a project with this RANDSEED, where 0 is handed in.
-fn said_with_seed(alloc: Global, seed: &[u8]) -> Result<Vec<u8>, Fail> {
+#[test]
+fn too_many_proposals_are_refused(rt: HostRuntime) -> Result<(), Fail> {
+    let said = "refused: input: NUMITNS out of range\n";
+    assert!(rt; refuses_input(rt.alloc(), b"PUNAME pu.dat\nNUMITNS 10000001\n", said)?);
+    Ok(())
+}
+
+/// Whether this unit file is refused with this text.
+fn refuses_units(alloc: Global, units: &[u8], said: &str) -> Result<bool, Fail> {
+    refuses(alloc, INPUT, units, said)
+}
+
+#[test]
+fn a_unit_file_without_a_column_is_refused(rt: HostRuntime) -> Result<(), Fail> {
+    let alloc = rt.alloc();
+    assert!(rt; refuses_units(alloc, b"", "refused: units: no header\n")?);
+    assert!(rt; refuses_units(alloc, b"id\n1\n", "refused: units: column cost 1 missing\n")?);
+    assert!(rt; refuses_units(alloc, b"cost\n1\n", "refused: units: column id missing\n")?);
+    Ok(())
+}
+
+#[test]
+fn a_unit_that_is_no_unit_is_refused(rt: HostRuntime) -> Result<(), Fail> {
+    let alloc = rt.alloc();
+    let repeated = "refused: units: line 3 repeated\n";
+    let negative = "refused: units: line 2 bad number in cost 1: negative\n";
+    assert!(rt;
+        refuses_units(
+            alloc,
+            b"id,cost\n1,10\n2\n",
+            "refused: units: line 3 uneven\n"
+        )?
+    );
+    assert!(rt; refuses_units(alloc, b"id,cost\n1,10\n01,20\n", repeated)?);
+    assert!(rt; refuses_units(alloc, b"id,cost\n1,-5\n", negative)?);
+    Ok(())
+}
+
+#[test]
+fn costs_above_their_limit_are_refused(rt: HostRuntime) -> Result<(), Fail> {
+    let two = b"id,cost\n1,50000000000000\n2,50000000000000.0001\n";
+    let three = b"id,cost\n1,50000000000000\n2,50000000000000\n3,50000000000000\n";
+    assert!(rt; refuses_units(rt.alloc(), two, "refused: limit: cost\n")?);
+    assert!(rt; refuses_units(rt.alloc(), three, "refused: limit: cost\n")?);
+    Ok(())
+}
+
+const SEED_0: &[u8] = b"seed 0
+units 3 zones 2 targets 0 free 3
+run 1 score 0.0000 entries 0
+best 1 score 0.0000
+";
+
+const GREATEST_SEED: &[u8] = b"seed 2147483647
+units 3 zones 2 targets 0 free 3
+run 1 score 0.0000 entries 0
+best 1 score 0.0000
+";
+
+/// Whether this is said of a project with this RANDSEED, where 0 is handed in.
+fn says_with_seed(alloc: Global, seed: &[u8], said: &[u8]) -> Result<bool, Fail> {
     let mut input = Vec::from_slice(alloc, b"PUNAME pu.dat\nNUMITNS 0\nSTARTTEMP 0\nRUNMODE 6\n")?;
     input.extend_from_slice(seed)?;
-    let mut shelf = files(alloc, &input, UNITS)?;
-    let _ = run_plain(alloc, &mut shelf)?;
-    Ok(Vec::from_slice(alloc, shelf.said())?)
+    Ok(left_of(alloc, &input, UNITS)?.has_said(said))
 }
 
 #[test]
 fn a_negative_seed_takes_the_number_that_is_handed_in(rt: HostRuntime) -> Result<(), Fail> {
-    let table = [
-        (
-            b"RANDSEED -1\n".as_slice(),
-            b"seed 0\nunits 3 zones 2 targets 0 free 3\nrun 1 score 0.0000 entries 0\nbest 1 score 0.0000\n".as_slice(),
-        ),
-        (
-            b"".as_slice(),
-            b"seed 0\nunits 3 zones 2 targets 0 free 3\nrun 1 score 0.0000 entries 0\nbest 1 score 0.0000\n".as_slice(),
-        ),
-        (
-            b"RANDSEED 2147483647\n".as_slice(),
-            b"seed 2147483647\nunits 3 zones 2 targets 0 free 3\nrun 1 score 0.0000 entries 0\nbest 1 score 0.0000\n".as_slice(),
-        ),
-    ];
-    for (seed, said) in table {
-        let found = said_with_seed(rt.alloc(), seed)?;
-        assert!(rt; found.as_slice() == said);
-    }
+    assert!(rt; says_with_seed(rt.alloc(), b"RANDSEED -1\n", SEED_0)?);
+    assert!(rt; says_with_seed(rt.alloc(), b"", SEED_0)?);
+    assert!(rt; says_with_seed(rt.alloc(), b"RANDSEED 2147483647\n", GREATEST_SEED)?);
     Ok(())
+}
+
+/// The score of a plan of the project of these two files, in ten-thousandths.
+fn score_of<'a>(
+    alloc: Global,
+    input: &'a [u8],
+    units: &'a [u8],
+    zones: &[u8],
+) -> Result<Option<u128>, Fail> {
+    let files = [("input.dat", input), ("pu.dat", units)];
+    let mut shelf = shelf_with(alloc, Vec::new(alloc), 0, &files)?;
+    match prepare(alloc, &words(alloc, "input.dat", "1")?, 0, &mut shelf) {
+        Ok(job) => Ok(scored(alloc, &job.problem, zones)),
+        Err(_) => Ok(None),
+    }
+}
+
+fn scored(alloc: Global, problem: &Problem, zones: &[u8]) -> Option<u128> {
+    match Plan::of(alloc, problem, zones) {
+        Ok(plan) => Some(evaluate(problem, &plan).total),
+        Err(_) => None,
+    }
 }
 
 #[test]
 fn units_may_stand_in_any_table(rt: HostRuntime) -> Result<(), Fail> {
-    let alloc = rt.alloc();
-    let table = [
-        (b"id,cost\n1,1.5E+1\n2,20\n3,30\n".as_slice(), 150_000),
-        (
-            b"cost\tname\tid\r\n10\ta\t1\r\n20\tb\t2\r\n30\tc\t3".as_slice(),
-            100_000,
-        ),
-    ];
-    for (units, score) in table {
-        let mut shelf = files(alloc, INPUT, units)?;
-        assert_eq!(rt; score_of(alloc, &mut shelf, &[1, 0, 0])?, Some(score));
-    }
+    let exponents = b"id,cost\n1,1.5E+1\n2,20\n3,30\n";
+    let tabs = b"cost\tname\tid\r\n10\ta\t1\r\n20\tb\t2\r\n30\tc\t3";
+    assert_eq!(rt;
+        score_of(rt.alloc(), INPUT, exponents, &[1, 0, 0])?,
+        Some(150_000)
+    );
+    assert_eq!(rt;
+        score_of(rt.alloc(), INPUT, tabs, &[1, 0, 0])?,
+        Some(100_000)
+    );
     Ok(())
 }
 
 #[test]
 fn units_cost_nothing_in_the_available_zone(rt: HostRuntime) -> Result<(), Fail> {
-    let alloc = rt.alloc();
-    let mut shelf = files(alloc, &with_line(alloc, b"AVAILABLEZONE 2\n")?, UNITS)?;
-    assert_eq!(rt; score_of(alloc, &mut shelf, &[0, 1, 1])?, Some(100_000));
+    let input = with_lines(rt.alloc(), b"AVAILABLEZONE 2\n")?;
+    assert_eq!(rt;
+        score_of(rt.alloc(), &input, UNITS, &[0, 1, 1])?,
+        Some(100_000)
+    );
     Ok(())
+}
+
+/// What a run of the plain project in folders leaves.
+fn left_in_folders(alloc: Global) -> Result<Left, Fail> {
+    let input = with_lines(alloc, b"INPUTDIR in/\nOUTPUTDIR out\n")?;
+    let files = [("input.dat", input.as_slice()), ("in/pu.dat", UNITS)];
+    let mut shelf = shelf_with(alloc, Vec::new(alloc), 0, &files)?;
+    left_on(alloc, &mut shelf, "out/output_best.csv")
 }
 
 #[test]
 fn folders_stand_before_the_names(rt: HostRuntime) -> Result<(), Fail> {
-    let alloc = rt.alloc();
-    let mut shelf = MemShelf::new(alloc, Vec::new(alloc), 0)?;
-    shelf.put(
-        alloc,
-        "input.dat",
-        &with_line(alloc, b"INPUTDIR in/\nOUTPUTDIR out\n")?,
-    )?;
-    shelf.put(alloc, "in/pu.dat", UNITS)?;
-    let outcome = run_plain(alloc, &mut shelf)?;
-    assert_eq!(rt; outcome.code, 0);
-    assert!(rt; shelf.said() == SAID);
-    assert!(rt; is_file(shelf.file("out/output_best.csv"), Some(BEST)));
+    let left = left_in_folders(rt.alloc())?;
+    assert_eq!(rt; left.outcome.code, 0);
+    assert!(rt; left.has_said(SAID));
+    assert!(rt; left.has_best(BEST));
     Ok(())
 }
 
-/// What is said of a project with these further lines and this file.
-fn said_of(alloc: Global, lines: &[u8], units: &[u8], file: &[u8]) -> Result<Vec<u8>, Fail> {
-    let mut shelf = files(alloc, &with_line(alloc, lines)?, units)?;
-    shelf.put(alloc, "f.dat", file)?;
-    let _ = run_plain(alloc, &mut shelf)?;
-    Ok(Vec::from_slice(alloc, shelf.said())?)
+/// Whether this is said of a project of these units, with these further lines and this file.
+fn says<'a>(
+    alloc: Global,
+    lines: &[u8],
+    units: &'a [u8],
+    file: &'a [u8],
+    said: &str,
+) -> Result<bool, Fail> {
+    let input = with_lines(alloc, lines)?;
+    let files = [
+        ("input.dat", input.as_slice()),
+        ("pu.dat", units),
+        ("f.dat", file),
+    ];
+    Ok(said_by(alloc, &files)?.as_slice() == said.as_bytes())
 }
+
+const ONE_LOCKED: &str = "seed 7
+units 3 zones 2 targets 0 free 2
+run 1 score 30.0000 entries 5
+best 1 score 30.0000
+";
+
+const ALL_IN_ONE_ZONE: &str = "seed 7
+units 3 zones 2 targets 0 free 0
+run 1 score 60.0000 entries 0
+best 1 score 60.0000
+";
 
 #[test]
 fn locks_and_zone_sets_limit_the_plan(rt: HostRuntime) -> Result<(), Fail> {
-    let table = [
-        (
-            b"PULOCKNAME f.dat\n".as_slice(),
-            b"puid,zoneid\n3,2\n".as_slice(),
-            b"seed 7\nunits 3 zones 2 targets 0 free 2\nrun 1 score 30.0000 entries 5\nbest 1 score 30.0000\n".as_slice(),
-        ),
-        (
-            b"PUZONENAME f.dat\n".as_slice(),
-            b"puid,zoneid\n1,2\n2,2\n3,2\n".as_slice(),
-            b"seed 7\nunits 3 zones 2 targets 0 free 0\nrun 1 score 60.0000 entries 0\nbest 1 score 60.0000\n".as_slice(),
-        ),
-        (
-            b"PUZONENAME f.dat\nPULOCKNAME f.dat\n".as_slice(),
-            b"puid,zoneid\n1,1\n1,2\n".as_slice(),
-            b"refused: pulock: line 3 repeated\n".as_slice(),
-        ),
-        (
-            b"ZONESNAME f.dat\n".as_slice(),
-            b"id,name\n1,a\n1,b\n".as_slice(),
-            b"refused: zones: line 3 repeated\n".as_slice(),
-        ),
-    ];
-    for (lines, file, said) in table {
-        let found = said_of(rt.alloc(), lines, UNITS, file)?;
-        assert!(rt; found.as_slice() == said);
-    }
+    let alloc = rt.alloc();
+    let lock = b"puid,zoneid\n3,2\n";
+    let sets = b"puid,zoneid\n1,2\n2,2\n3,2\n";
+    assert!(rt; says(alloc, b"PULOCKNAME f.dat\n", UNITS, lock, ONE_LOCKED)?);
+    assert!(rt; says(alloc, b"PUZONENAME f.dat\n", UNITS, sets, ALL_IN_ONE_ZONE)?);
     Ok(())
+}
+
+#[test]
+fn a_second_lock_and_a_second_zone_are_refused(rt: HostRuntime) -> Result<(), Fail> {
+    let alloc = rt.alloc();
+    let both = b"PUZONENAME f.dat\nPULOCKNAME f.dat\n";
+    let locks = b"puid,zoneid\n1,1\n1,2\n";
+    let zones = b"id,name\n1,a\n1,b\n";
+    assert!(rt;
+        says(
+            alloc,
+            both,
+            UNITS,
+            locks,
+            "refused: pulock: line 3 repeated\n"
+        )?
+    );
+    assert!(rt;
+        says(
+            alloc,
+            b"ZONESNAME f.dat\n",
+            UNITS,
+            zones,
+            "refused: zones: line 3 repeated\n"
+        )?
+    );
+    Ok(())
+}
+
+/// Whether a project is refused whose one unit is locked outside its zones.
+fn refuses_a_lock(alloc: Global) -> Result<bool, Fail> {
+    let input = with_lines(alloc, b"PUZONENAME sets.dat\nPULOCKNAME locks.dat\n")?;
+    let files = [
+        ("input.dat", input.as_slice()),
+        ("pu.dat", UNITS),
+        ("sets.dat", b"puid,zoneid\n1,1\n"),
+        ("locks.dat", b"puid,zoneid\n1,2\n"),
+    ];
+    let left = left_by(alloc, &files)?;
+    let said = "refused: pulock: line 2 unit 1 is locked outside its zones\n";
+    Ok(left.outcome.code == 2 && left.has_said(said.as_bytes()))
 }
 
 #[test]
 fn a_lock_outside_its_zones_is_refused(rt: HostRuntime) -> Result<(), Fail> {
-    let alloc = rt.alloc();
-    let input = with_line(alloc, b"PUZONENAME sets.dat\nPULOCKNAME locks.dat\n")?;
-    let mut shelf = files(alloc, &input, UNITS)?;
-    shelf.put(alloc, "sets.dat", b"puid,zoneid\n1,1\n")?;
-    shelf.put(alloc, "locks.dat", b"puid,zoneid\n1,2\n")?;
-    let outcome = run_plain(alloc, &mut shelf)?;
-    assert_eq!(rt; outcome.code, 2);
-    assert!(rt;
-        shelf.said() == b"refused: pulock: line 2 unit 1 is locked outside its zones\n".as_slice()
-    );
+    assert!(rt; refuses_a_lock(rt.alloc())?);
     Ok(())
 }
 
+const NO_UNITS: &str = "seed 7
+units 0 zones 2 targets 0 free 0
+run 1 score 0.0000 entries 0
+best 1 score 0.0000
+";
+
 #[test]
 fn a_project_may_have_no_units(rt: HostRuntime) -> Result<(), Fail> {
-    let said = said_of(rt.alloc(), b"", b"id,cost\n", b"")?;
-    assert!(rt;
-        said.as_slice()
-            == b"seed 7\nunits 0 zones 2 targets 0 free 0\nrun 1 score 0.0000 entries 0\nbest 1 score 0.0000\n".as_slice()
-    );
+    assert!(rt; says(rt.alloc(), b"", b"id,cost\n", b"", NO_UNITS)?);
     Ok(())
 }
 

@@ -6,6 +6,8 @@ mod folders;
 #[cfg(test)]
 mod input;
 #[cfg(test)]
+mod left;
+#[cfg(test)]
 mod parameters;
 #[cfg(test)]
 mod plain;

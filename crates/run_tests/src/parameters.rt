@@ -1,6 +1,6 @@
 //! Parameter files, by what they give and by their first fault.
 use mz_num::{Mic6, Ten4, Text};
-use mz_params::{Key, ParamFault, Params, key_name};
+use mz_params::{Key, KeyKind, ParamFault, Params, key_name};
 use std::alloc::Global;
 use std::test::Fail;
 
@@ -244,5 +244,17 @@ fn reads_any_bytes(rt: HostRuntime) -> Result<(), Fail> {
 fn names_keys_as_they_are_printed(rt: HostRuntime) -> Result<(), Fail> {
     assert_eq!(rt; key_name(Key::ZoneBoundCostName), "ZONEBOUNDCOSTNAME");
     assert_eq!(rt; key_name(Key::Asymmetric), "ASYMMETRICCONNECTIVITY");
+    Ok(())
+}
+
+#[test]
+fn keys_take_values_of_their_kinds(rt: HostRuntime) -> Result<(), Fail> {
+    assert_eq!(rt; Key::PuName.kind(), KeyKind::Text);
+    assert_eq!(rt; Key::SaveTurns.kind(), KeyKind::Whole);
+    assert_eq!(rt; Key::CoolFac.kind(), KeyKind::Millionths);
+    assert_eq!(rt; Key::RandSeed.kind(), KeyKind::Seed);
+    assert_eq!(rt; Key::StartTemp.kind(), KeyKind::Start);
+    assert_eq!(rt; Key::RunMode.kind(), KeyKind::Mode);
+    assert_eq!(rt; Key::Asymmetric.kind(), KeyKind::Zero);
     Ok(())
 }

@@ -1,30 +1,54 @@
 //! The plain project of three units, run whole over shelves in memory.
+use crate::left::{Left, left_by, left_on, shelf_with};
 use mz_run::{Finished, InputFault, Status, code, marzone, prepare};
 use mz_shelf::{MemShelf, SafeShelf, Shelf};
 use std::alloc::{AllocError, Global};
-use std::process::Abort;
 use std::test::Fail;
 
-pub(crate) const INPUT: &[u8] =
-    b"PUNAME pu.dat\nRANDSEED 7\nNUMITNS 5\nSTARTTEMP 0\nCOOLFAC 1\nNUMTEMP 1\nRUNMODE 6\nSAVEBEST 3\n";
+pub(crate) const INPUT: &[u8] = b"PUNAME pu.dat
+RANDSEED 7
+NUMITNS 5
+STARTTEMP 0
+COOLFAC 1
+NUMTEMP 1
+RUNMODE 6
+SAVEBEST 3
+";
 
 pub(crate) const UNITS: &[u8] = b"id,cost\n1,10\n2,20\n3,30\n";
 
-pub(crate) const SAID: &[u8] =
-    b"seed 7\nunits 3 zones 2 targets 0 free 3\nrun 1 score 0.0000 entries 5\nbest 1 score 0.0000\n";
+pub(crate) const SAID: &[u8] = b"seed 7
+units 3 zones 2 targets 0 free 3
+run 1 score 0.0000 entries 5
+best 1 score 0.0000
+";
 
-const SAID_TO_THE_BEST_FILE: &[u8] =
-    b"seed 7\nunits 3 zones 2 targets 0 free 3\nrun 1 score 0.0000 entries 5\nrefused: fault: output_best.csv\n";
+const SAID_TO_THE_BEST_FILE: &[u8] = b"seed 7
+units 3 zones 2 targets 0 free 3
+run 1 score 0.0000 entries 5
+refused: fault: output_best.csv
+";
 
-pub(crate) const BEST: &[u8] =
-    b"planning_unit,zone\n1,1\n2,1\n3,1\nscore,0.0000\ncost,0.0000\nboundary,0.0000\npenalty,0.0000\nshortfall,0.0000\n";
+pub(crate) const BEST: &[u8] = b"planning_unit,zone
+1,1
+2,1
+3,1
+score,0.0000
+cost,0.0000
+boundary,0.0000
+penalty,0.0000
+shortfall,0.0000
+";
 
-/// A shelf with the two files of the project, some of whose calls fail.
-pub(crate) fn project(alloc: Global, fails: Vec<u64>, cut: usize) -> Result<MemShelf, Fail> {
-    let mut shelf = MemShelf::new(alloc, fails, cut)?;
-    shelf.put(alloc, "input.dat", INPUT)?;
-    shelf.put(alloc, "pu.dat", UNITS)?;
-    Ok(shelf)
+/// A shelf with the two files of the project, of whose calls these fail.
+pub(crate) fn project(alloc: Global, fails: &[u64], cut: usize) -> Result<MemShelf, Fail> {
+    let fails = Vec::from_slice(alloc, fails)?;
+    shelf_with(
+        alloc,
+        fails,
+        cut,
+        &[("input.dat", INPUT), ("pu.dat", UNITS)],
+    )
 }
 
 pub(crate) fn words(alloc: Global, file: &str, workers: &str) -> Result<Vec<String>, AllocError> {
@@ -93,147 +117,168 @@ pub(crate) fn run_plain(alloc: Global, shelf: &mut impl Shelf) -> Result<Outcome
     run(alloc, &words(alloc, "input.dat", "1")?, shelf)
 }
 
-/// Both are the same bytes, or neither is there.
-pub(crate) fn is_file(found: Option<&[u8]>, wanted: Option<&[u8]>) -> bool {
-    match (found, wanted) {
-        (Some(found), Some(wanted)) => found == wanted,
-        (None, None) => true,
-        _ => false,
-    }
+/// What a run of the project leaves where these calls fail.
+fn left_behind(alloc: Global, fails: &[u64], cut: usize) -> Result<Left, Fail> {
+    let mut shelf = project(alloc, fails, cut)?;
+    left_on(alloc, &mut shelf, "output_best.csv")
 }
 
 #[test]
 fn the_plain_project_is_run(rt: HostRuntime) -> Result<(), Fail> {
-    let alloc = rt.alloc();
-    let mut shelf = project(alloc, Vec::new(alloc), 0)?;
-    let outcome = run_plain(alloc, &mut shelf)?;
-    assert_eq!(rt; outcome.code, 0);
-    assert!(rt; outcome.has_job);
-    assert!(rt; outcome.is_plain);
-    assert!(rt; shelf.said() == SAID);
-    assert!(rt; is_file(shelf.file("output_best.csv"), Some(BEST)));
+    let left = left_behind(rt.alloc(), &[], 0)?;
+    assert_eq!(rt; left.outcome.code, 0);
+    assert!(rt; left.outcome.has_job);
+    assert!(rt; left.outcome.is_plain);
+    assert!(rt; left.has_said(SAID));
+    assert!(rt; left.has_best(BEST));
     Ok(())
+}
+
+/// A shelf whose calls never fail, with the two files of the project.
+fn safe_project(alloc: Global) -> Result<SafeShelf, Fail> {
+    let mut shelf = SafeShelf::new(alloc)?;
+    for (name, bytes) in [("input.dat", INPUT), ("pu.dat", UNITS)] {
+        shelf.put(alloc, name, bytes)?;
+    }
+    Ok(shelf)
+}
+
+/// Whether a run over such a shelf ends well, and says and writes what it is to.
+fn is_run_safely(alloc: Global) -> Result<bool, Fail> {
+    let mut shelf = safe_project(alloc)?;
+    let outcome = run_plain(alloc, &mut shelf)?;
+    let is_best = match shelf.file("output_best.csv") {
+        Some(best) => best == BEST,
+        None => false,
+    };
+    Ok(outcome.code == 0 && is_best && shelf.said() == SAID)
 }
 
 #[test]
 fn a_shelf_that_never_fails_gives_the_same(rt: HostRuntime) -> Result<(), Fail> {
-    let alloc = rt.alloc();
-    let mut shelf = SafeShelf::new(alloc)?;
-    shelf.put(alloc, "input.dat", INPUT)?;
-    shelf.put(alloc, "pu.dat", UNITS)?;
-    let outcome = run_plain(alloc, &mut shelf)?;
-    assert_eq!(rt; outcome.code, 0);
-    assert!(rt; shelf.said() == SAID);
-    assert!(rt; is_file(shelf.file("output_best.csv"), Some(BEST)));
+    assert!(rt; is_run_safely(rt.alloc())?);
     Ok(())
 }
 
 #[test]
 fn a_missing_unit_file_is_absent(rt: HostRuntime) -> Result<(), Fail> {
-    let alloc = rt.alloc();
-    let mut shelf = MemShelf::new(alloc, Vec::new(alloc), 0)?;
-    shelf.put(alloc, "input.dat", INPUT)?;
-    let outcome = run_plain(alloc, &mut shelf)?;
-    assert_eq!(rt; outcome.code, 4);
-    assert_eq!(rt; outcome.status.as_str(), "absent pu.dat");
-    assert_eq!(rt; outcome.trails, 0);
-    assert!(rt; shelf.said() == b"refused: absent: pu.dat\n".as_slice());
+    let left = left_by(rt.alloc(), &[("input.dat", INPUT)])?;
+    assert_eq!(rt; left.outcome.code, 4);
+    assert_eq!(rt; left.outcome.status.as_str(), "absent pu.dat");
+    assert_eq!(rt; left.outcome.trails, 0);
+    assert!(rt; left.has_said(b"refused: absent: pu.dat\n"));
     Ok(())
 }
 
-/// One call of the run fails: the name that the status bears, and how many trails come back.
-fn fails_at(
-    rt: &impl Abort,
-    alloc: Global,
-    call: u64,
-    cut: usize,
-    status: &str,
-    trails: usize,
-) -> Result<MemShelf, Fail> {
-    let mut shelf = project(alloc, vec![in alloc; call]?, cut)?;
-    let outcome = run_plain(alloc, &mut shelf)?;
-    assert_eq!(rt; outcome.code, 3, "call {call}");
-    assert_eq!(rt; outcome.status.as_str(), status);
-    assert_eq!(rt; outcome.trails, trails, "call {call}");
-    Ok(shelf)
+/// Whether a run whose call of this number fails bears this status, with so many trails, whatever the
+/// write leaves.
+fn fails_at(alloc: Global, call: u64, status: &str, trails: usize) -> Result<bool, Fail> {
+    let whole = left_behind(alloc, &[call], 0)?.outcome;
+    let cut = left_behind(alloc, &[call], 4)?.outcome;
+    Ok(is_fault(&whole, status, trails) && is_fault(&cut, status, trails))
+}
+
+fn is_fault(outcome: &Outcome, status: &str, trails: usize) -> bool {
+    outcome.code == 3 && outcome.status.as_str() == status && outcome.trails == trails
 }
 
 #[test]
 fn each_failing_call_has_its_name_and_trails(rt: HostRuntime) -> Result<(), Fail> {
-    let table = [
-        (0, "fault input.dat", 0),
-        (1, "fault pu.dat", 0),
-        (2, "fault -", 0),
-        (3, "fault -", 1),
-        (4, "fault output_best.csv", 1),
-        (5, "fault -", 1),
-    ];
-    for (call, status, trails) in table {
-        let _ = fails_at(&rt, rt.alloc(), call, 0, status, trails)?;
-        let _ = fails_at(&rt, rt.alloc(), call, 4, status, trails)?;
-    }
+    assert!(rt; fails_at(rt.alloc(), 0, "fault input.dat", 0)?);
+    assert!(rt; fails_at(rt.alloc(), 1, "fault pu.dat", 0)?);
+    assert!(rt; fails_at(rt.alloc(), 2, "fault -", 0)?);
+    assert!(rt; fails_at(rt.alloc(), 3, "fault -", 1)?);
+    assert!(rt; fails_at(rt.alloc(), 4, "fault output_best.csv", 1)?);
+    assert!(rt; fails_at(rt.alloc(), 5, "fault -", 1)?);
     Ok(())
+}
+
+/// Whether a write of the best file that fails leaves these bytes.
+fn leaves_cut(alloc: Global, cut: usize, best: &[u8]) -> Result<bool, Fail> {
+    let left = left_behind(alloc, &[4], cut)?;
+    Ok(left.has_best(best) && left.has_said(SAID_TO_THE_BEST_FILE))
 }
 
 #[test]
 fn a_failing_write_leaves_its_cut(rt: HostRuntime) -> Result<(), Fail> {
-    let table = [(0, b"".as_slice()), (4, b"plan".as_slice())];
-    for (cut, best) in table {
-        let shelf = fails_at(&rt, rt.alloc(), 4, cut, "fault output_best.csv", 1)?;
-        assert_eq!(rt; shelf.faults(), 1);
-        assert!(rt; is_file(shelf.file("output_best.csv"), Some(best)));
-        assert!(rt; shelf.said() == SAID_TO_THE_BEST_FILE);
-    }
+    assert!(rt; leaves_cut(rt.alloc(), 0, b"")?);
+    assert!(rt; leaves_cut(rt.alloc(), 4, b"plan")?);
+    Ok(())
+}
+
+/// How many calls of a run failed, of which one was to fail.
+fn faults_of(alloc: Global, call: u64) -> Result<u64, Fail> {
+    let mut shelf = project(alloc, &[call], 0)?;
+    let _ = run_plain(alloc, &mut shelf)?;
+    Ok(shelf.faults())
+}
+
+#[test]
+fn a_failing_write_is_one_fault(rt: HostRuntime) -> Result<(), Fail> {
+    assert_eq!(rt; faults_of(rt.alloc(), 4)?, 1);
     Ok(())
 }
 
 #[test]
 fn a_run_keeps_its_turns_where_its_best_file_fails(rt: HostRuntime) -> Result<(), Fail> {
-    let alloc = rt.alloc();
-    let mut shelf = project(alloc, vec![in alloc; 4]?, 4)?;
-    let outcome = run_plain(alloc, &mut shelf)?;
-    assert_eq!(rt; outcome.code, 3);
-    assert!(rt; outcome.is_plain);
+    let left = left_behind(rt.alloc(), &[4], 4)?;
+    assert_eq!(rt; left.outcome.code, 3);
+    assert!(rt; left.outcome.is_plain);
     Ok(())
 }
 
 #[test]
 fn a_failing_say_leaves_its_cut(rt: HostRuntime) -> Result<(), Fail> {
-    let shelf = fails_at(&rt, rt.alloc(), 2, 4, "fault -", 0)?;
-    assert!(rt; shelf.said() == b"seedrefused: fault: -\n".as_slice());
-    assert!(rt; is_file(shelf.file("output_best.csv"), None));
+    let left = left_behind(rt.alloc(), &[2], 4)?;
+    assert!(rt; left.has_said(b"seedrefused: fault: -\n"));
+    assert!(rt; left.best.is_none());
     Ok(())
 }
 
 #[test]
 fn the_best_file_stands_before_the_last_line(rt: HostRuntime) -> Result<(), Fail> {
-    let shelf = fails_at(&rt, rt.alloc(), 5, 4, "fault -", 1)?;
-    assert!(rt; is_file(shelf.file("output_best.csv"), Some(BEST)));
+    let left = left_behind(rt.alloc(), &[5], 4)?;
+    assert!(rt; left.has_best(BEST));
     Ok(())
+}
+
+/// What is said of a run of other words whose first call fails.
+fn said_of_words(alloc: Global) -> Result<Vec<u8>, Fail> {
+    let mut shelf = project(alloc, &[0], 4)?;
+    let _ = run(alloc, &words(alloc, "gen", "1")?, &mut shelf)?;
+    Ok(Vec::from_slice(alloc, shelf.said())?)
 }
 
 #[test]
 fn a_refusal_of_words_may_fail_itself(rt: HostRuntime) -> Result<(), Fail> {
-    let alloc = rt.alloc();
-    let mut shelf = project(alloc, vec![in alloc; 0]?, 4)?;
-    let outcome = run(alloc, &words(alloc, "gen", "1")?, &mut shelf)?;
-    assert_eq!(rt; outcome.status.as_str(), "words");
-    assert!(rt; shelf.said() == b"refu".as_slice());
+    let said = said_of_words(rt.alloc())?;
+    assert!(rt; said.as_slice() == b"refu".as_slice());
     Ok(())
 }
 
 #[test]
 fn a_refusal_of_a_fault_may_fail_itself(rt: HostRuntime) -> Result<(), Fail> {
-    let alloc = rt.alloc();
-    let mut shelf = project(alloc, vec![in alloc; 2, 3]?, 4)?;
-    let outcome = run_plain(alloc, &mut shelf)?;
-    assert_eq!(rt; outcome.status.as_str(), "fault -");
-    assert!(rt; shelf.said() == b"seedrefu".as_slice());
+    let left = left_behind(rt.alloc(), &[2, 3], 4)?;
+    assert_eq!(rt; left.outcome.status.as_str(), "fault -");
+    assert!(rt; left.has_said(b"seedrefu"));
     Ok(())
 }
 
-/// What is prepared of the project: its units, seed and workers.
-fn prepared(alloc: Global, shelf: &mut impl Shelf) -> Result<Option<(u32, u64, u8)>, AllocError> {
+/// What is prepared of the project: its units, seed and workers, and how much is said.
+fn prepared(alloc: Global) -> Result<Option<(u32, u64, u8, usize)>, Fail> {
+    let mut shelf = project(alloc, &[], 0)?;
+    let prepared = job_numbers(alloc, &mut shelf)?;
+    let said = shelf.said().len();
+    match prepared {
+        Some((units, seed, workers)) => Ok(Some((units, seed, workers, said))),
+        None => Ok(None),
+    }
+}
+
+fn job_numbers(
+    alloc: Global,
+    shelf: &mut impl Shelf,
+) -> Result<Option<(u32, u64, u8)>, AllocError> {
     match prepare(alloc, &words(alloc, "input.dat", "1")?, 0, shelf) {
         Ok(job) => Ok(Some((job.problem.units(), job.seed, job.workers))),
         Err(_) => Ok(None),
@@ -242,14 +287,6 @@ fn prepared(alloc: Global, shelf: &mut impl Shelf) -> Result<Option<(u32, u64, u
 
 #[test]
 fn a_project_is_prepared_in_silence(rt: HostRuntime) -> Result<(), Fail> {
-    let alloc = rt.alloc();
-    let mut shelf = project(alloc, Vec::new(alloc), 0)?;
-    let Some((units, seed, workers)) = prepared(alloc, &mut shelf)? else {
-        panic!(rt; "refused")
-    };
-    assert_eq!(rt; units, 3);
-    assert_eq!(rt; seed, 7);
-    assert_eq!(rt; workers, 1);
-    assert!(rt; shelf.said().is_empty());
+    assert_eq!(rt; prepared(rt.alloc())?, Some((3, 7, 1, 0)));
     Ok(())
 }

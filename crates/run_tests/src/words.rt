@@ -4,20 +4,20 @@ use mz_shelf::MemShelf;
 use std::alloc::Global;
 use std::test::Fail;
 
-/// A run of these words over a shelf whose second call would fail.
-fn run_words(alloc: Global, words: &[&str]) -> Result<(Outcome, MemShelf), Fail> {
-    let mut shelf = project(alloc, vec![in alloc; 1]?, 0)?;
+/// A run of these words over this shelf.
+fn run_words(alloc: Global, words: &[&str], shelf: &mut MemShelf) -> Result<Outcome, Fail> {
     let mut texts = Vec::new(alloc);
     for word in words {
         texts.push(String::from_str(alloc, word)?)?;
     }
-    let outcome = run(alloc, &texts, &mut shelf)?;
-    Ok((outcome, shelf))
+    Ok(run(alloc, &texts, shelf)?)
 }
 
-/// The words have no form: nothing is read, and the refusal is all that is said.
+/// The words have no form: over a shelf whose second call would fail nothing is read, and the refusal is
+/// all that is said.
 fn have_no_form(alloc: Global, words: &[&str]) -> Result<bool, Fail> {
-    let (outcome, shelf) = run_words(alloc, words)?;
+    let mut shelf = project(alloc, &[1], 0)?;
+    let outcome = run_words(alloc, words, &mut shelf)?;
     Ok(
         outcome.code == 1
             && !outcome.has_job

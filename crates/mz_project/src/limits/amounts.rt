@@ -3,9 +3,10 @@ ghost use Rattle.std.specs.Prelude.{◌≡◌, ◌≤◌, [], IfOk, length, slic
 ghost use Rattle.std.specs.List.{All, sum_by};
 ghost use Rattle.mz_num.specs.Limits.{most_amount_rows};
 ghost use Rattle.mz_num.specs.Places.{list_below};
-ghost use Rattle.mz_project.specs.Fits.{FitsRegion};
+ghost use Rattle.mz_project.specs.Region.{FitsRegion};
 ghost use Rattle.mz_project.specs.AmountsByFeature.{amounts_by_feature};
-ghost use Rattle.mz_project.specs.Limits.{Limited, totals_are_above};
+ghost use Rattle.mz_project.specs.Limited.{Limited};
+ghost use Rattle.mz_project.specs.Limits.{totals_are_above};
 ghost use Rattle.mz_project.specs.declared.fault.What.TheVariants as what;
 
 use super::narrow::{narrowed, narrowed_rows};

@@ -2,9 +2,10 @@
 ghost use Rattle.std.specs.Prelude.{◌≡◌, ◌≤◌, ◌+◌, ◌*◌, ◌^◌, length, slice_index};
 ghost use Rattle.std.specs.List.{sum};
 ghost use Rattle.mz_num.specs.Places.{sum_below, greatest_below};
-ghost use Rattle.mz_project.specs.Fits.{FitsArea};
-ghost use Rattle.mz_project.specs.Limits.{Limited, costs_are_above};
-ghost use Rattle.mz_project.specs.Parts.{terms_of};
+ghost use Rattle.mz_project.specs.Area.{FitsArea};
+ghost use Rattle.mz_project.specs.Limited.{Limited};
+ghost use Rattle.mz_project.specs.Limits.{costs_are_above};
+ghost use Rattle.mz_project.specs.Costs.{terms_of};
 ghost use Rattle.mz_project.specs.declared.fault.What.TheVariants as what;
 
 use super::narrow::narrowed;

@@ -4,9 +4,10 @@ ghost use Rattle.std.specs.List.{All, sum_by};
 ghost use Rattle.mz_num.specs.Limits.{greatest_quantity, million, most_amount_rows};
 ghost use Rattle.mz_num.specs.Round.{round};
 ghost use Rattle.mz_num.specs.Places.{greatest_below};
-ghost use Rattle.mz_project.specs.Fits.{FitsRegion};
+ghost use Rattle.mz_project.specs.Region.{FitsRegion};
 ghost use Rattle.mz_project.specs.AmountsByFeature.{amounts_by_feature};
-ghost use Rattle.mz_project.specs.Limits.{Limited, gains_are_above, totals_are_above};
+ghost use Rattle.mz_project.specs.Limited.{Limited};
+ghost use Rattle.mz_project.specs.Limits.{gains_are_above, totals_are_above};
 ghost use Rattle.mz_project.specs.declared.fault.What.TheVariants as what;
 
 use super::amounts::AmountsByFeature;

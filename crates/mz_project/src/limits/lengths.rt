@@ -4,7 +4,8 @@ ghost use Rattle.std.specs.List.{list_any};
 ghost use Rattle.mz_num.specs.Limits.{million};
 ghost use Rattle.mz_num.specs.Round.{round};
 ghost use Rattle.mz_num.specs.Places.{greatest_below};
-ghost use Rattle.mz_project.specs.Limits.{Limited, is_above, lengths_are_above, terms_are_above};
+ghost use Rattle.mz_project.specs.Limited.{Limited};
+ghost use Rattle.mz_project.specs.Limits.{is_above, lengths_are_above, terms_are_above};
 ghost use Rattle.mz_project.specs.Lengths.{lengths_of};
 ghost use Rattle.mz_project.specs.declared.fault.What.TheVariants as what;
 

@@ -3,10 +3,11 @@ ghost use Rattle.std.specs.Prelude.{◌≡◌, ◌≤◌, ◌++◌, false, lengt
 ghost use Rattle.mz_num.specs.Limits.{greatest_quantity};
 ghost use Rattle.mz_num.specs.Places.{list_below};
 ghost use Rattle.mz_targets.specs.Level.{level};
-ghost use Rattle.mz_project.specs.Fits.{FitsRegion};
+ghost use Rattle.mz_project.specs.Region.{FitsRegion};
 ghost use Rattle.mz_project.specs.AmountsByFeature.{amounts_by_feature};
-ghost use Rattle.mz_project.specs.Limits.{Limited, levels_are_above, totals_are_above};
-ghost use Rattle.mz_project.specs.Parts.{levels_of, overall_level as level_of_feature, zone_level};
+ghost use Rattle.mz_project.specs.Limited.{Limited};
+ghost use Rattle.mz_project.specs.Limits.{levels_are_above, totals_are_above};
+ghost use Rattle.mz_project.specs.Levels.{levels_of, overall_level as level_of_feature, zone_level};
 ghost use Rattle.mz_project.specs.declared.fault.What.TheVariants as what;
 
 use super::amounts::AmountsByFeature;

@@ -1,29 +1,30 @@
 //! The rates of boundaries between zones, and their limit.
-ghost use Rattle.std.specs.Prelude.{◌≤◌, map};
-ghost use Rattle.std.specs.List.{All};
-ghost use Rattle.mz_num.specs.Limits.{greatest_quantity};
-ghost use Rattle.mz_bounds.specs.Rates.{rate};
-ghost use Rattle.mz_project.specs.Limits.{Limited, rates_are_above};
+ghost use Rattle.mz_project.specs.Limited.{Limited};
+ghost use Rattle.mz_project.specs.Limits.{rates_are_above};
+ghost use Rattle.mz_project.specs.Rates.{rates_of};
+ghost use Rattle.mz_project.specs.Region.{FitsRegion};
 ghost use Rattle.mz_project.specs.declared.fault.What.TheVariants as what;
 
 use super::narrow::narrowed;
 use crate::fault::{InputFault, ReadFault, What};
+use crate::region::Region;
 use mz_bounds::rates;
-use mz_num::{Items, Mic6};
+use mz_num::Items;
+use mz_params::Params;
 use std::alloc::Global;
 
-/// The rates of these zone boundary costs under the boundary length modifier, unless one is above the
+/// The rates of the zone boundary costs under the boundary length modifier, unless one is above the
 /// limit.
 pub(crate) fn limited_rates(
     alloc: Global,
-    costs: &[u64],
-    modifier: Mic6,
+    params: &Params,
+    region: &Region,
 ) -> Result<Items<u64>, ReadFault>
-    requires { All (λ cost. cost ≤ greatest_quantity) costs.now }
-    ensures { Limited what.Rate (rates_are_above (map (rate modifier) costs.now))
-        (map (rate modifier) costs.now) result }
+    requires { FitsRegion region.now }
+    ensures { Limited what.Rate (rates_are_above (rates_of params.now region.now))
+        (rates_of params.now region.now) result }
 {
-    let rates = rates(alloc, costs, modifier)?;
+    let rates = rates(alloc, region.boundaries.costs.as_slice(), params.blm)?;
     let Some(rates) = narrowed(alloc, &rates)? else {
         return Err(ReadFault::Input(InputFault::Sum(What::Rate)));
     };

@@ -1,5 +1,5 @@
 //! Why projects are refused.
-use super::{UNITS, fault_of, read, shelf_of};
+use super::{UNITS, has_bad_row, is_above, is_refused, is_taken, read, shelf_of};
 use mz_num::NumFault;
 use mz_params::{Key, ParamFault};
 use mz_project::{InputFault, ReadFault, What, Which};
@@ -17,293 +17,360 @@ fn ids(alloc: Global, header: &str, rows: u32) -> Result<String, Fail> {
     Ok(text)
 }
 
+/// Whether this file is refused for a row, both as one of zones and as one of costs.
+fn named_row(alloc: Global, text: &str, fault: RowFault) -> Result<bool, Fail> {
+    let files = [UNITS, ("f", text)];
+    let zones = has_bad_row(alloc, "ZONESNAME f", &files, Which::Zones, fault)?;
+    let costs = has_bad_row(alloc, "COSTSNAME f", &files, Which::Costs, fault)?;
+    Ok(zones && costs)
+}
+
 #[test]
 fn zones_and_costs_are_refused(rt: HostRuntime) -> Result<(), Fail> {
-    let table = [
-        (
+    let alloc = rt.alloc();
+    assert!(rt;
+        named_row(
+            alloc,
             "id,name\nx,a\n",
-            RowFault::BadNumber(2, 0, NumFault::NotANumber),
-        ),
-        (
+            RowFault::BadNumber(2, 0, NumFault::NotANumber)
+        )?
+    );
+    assert!(rt;
+        named_row(
+            alloc,
             "id,name\n1,a\n,b\n",
-            RowFault::BadNumber(3, 0, NumFault::Empty),
-        ),
-        (
+            RowFault::BadNumber(3, 0, NumFault::Empty)
+        )?
+    );
+    assert!(rt;
+        named_row(
+            alloc,
             "id,name\n-1,a\n",
-            RowFault::BadNumber(2, 0, NumFault::Negative),
-        ),
-        (
+            RowFault::BadNumber(2, 0, NumFault::Negative)
+        )?
+    );
+    assert!(rt;
+        named_row(
+            alloc,
             "id,name\n2147483648,a\n",
-            RowFault::BadNumber(2, 0, NumFault::TooLarge),
-        ),
-        ("id,name\n1,a\n2,b\n01,c\n", RowFault::Repeated(4)),
-    ];
-    for (text, fault) in table {
-        let zones = fault_of(rt.alloc(), "ZONESNAME f", &[UNITS, ("f", text)])?;
-        assert!(rt;
-            zones == Some(InputFault::Row(Which::Zones, fault)),
-            "zones: {text}"
-        );
-        let costs = fault_of(rt.alloc(), "COSTSNAME f", &[UNITS, ("f", text)])?;
-        assert!(rt;
-            costs == Some(InputFault::Row(Which::Costs, fault)),
-            "costs: {text}"
-        );
-    }
+            RowFault::BadNumber(2, 0, NumFault::TooLarge)
+        )?
+    );
+    assert!(rt; named_row(alloc, "id,name\n1,a\n2,b\n01,c\n", RowFault::Repeated(4))?);
+    Ok(())
+}
+
+#[test]
+fn sixty_zones_are_taken(rt: HostRuntime) -> Result<(), Fail> {
+    let sixty = ids(rt.alloc(), "id,name\n", 60)?;
+    assert!(rt; is_taken(rt.alloc(), "ZONESNAME f", &[UNITS, ("f", sixty.as_str())])?);
     Ok(())
 }
 
 #[test]
 fn the_61st_zone_and_cost_are_too_many(rt: HostRuntime) -> Result<(), Fail> {
-    let sixty = ids(rt.alloc(), "id,name\n", 60)?;
-    let found = fault_of(rt.alloc(), "ZONESNAME f", &[UNITS, ("f", sixty.as_str())])?;
-    assert!(rt; found == None);
     let more = ids(rt.alloc(), "id,name\n", 61)?;
-    let files = [UNITS, ("f", more.as_str())];
-    let zones = fault_of(rt.alloc(), "ZONESNAME f", &files)?;
-    assert!(rt; zones == Some(InputFault::Row(Which::Zones, RowFault::TooMany(62))));
-    let costs = fault_of(rt.alloc(), "COSTSNAME f", &files)?;
-    assert!(rt; costs == Some(InputFault::Row(Which::Costs, RowFault::TooMany(62))));
+    assert!(rt; named_row(rt.alloc(), more.as_str(), RowFault::TooMany(62))?);
     Ok(())
+}
+
+/// Whether this unit file is refused for a row, in a project of no cost.
+fn unpriced_row(alloc: Global, text: &str, fault: RowFault) -> Result<bool, Fail> {
+    let files = [("pu.dat", text), ("f", "id,name\n")];
+    has_bad_row(alloc, "COSTSNAME f", &files, Which::Units, fault)
 }
 
 #[test]
 fn the_100001st_unit_is_too_many(rt: HostRuntime) -> Result<(), Fail> {
     let text = ids(rt.alloc(), "id,name\n", 100_001)?;
-    let costs = ("f", "id,name\n");
-    let found = fault_of(
-        rt.alloc(),
-        "COSTSNAME f",
-        &[("pu.dat", text.as_str()), costs],
-    )?;
-    assert!(rt; found == Some(InputFault::Row(Which::Units, RowFault::TooMany(100_002))));
+    assert!(rt; unpriced_row(rt.alloc(), text.as_str(), RowFault::TooMany(100_002))?);
     Ok(())
 }
 
+/// Whether this unit file is refused for a row.
+fn unit_row(alloc: Global, text: &str, fault: RowFault) -> Result<bool, Fail> {
+    has_bad_row(alloc, "", &[("pu.dat", text)], Which::Units, fault)
+}
+
 #[test]
-fn units_are_refused(rt: HostRuntime) -> Result<(), Fail> {
-    let table = [
-        ("id,cost\n1,10\n1,20\n", RowFault::Repeated(3)),
-        (
-            "id,cost\n1,-5\n",
-            RowFault::BadNumber(2, 1, NumFault::Negative),
-        ),
-        (
-            "id,cost\n1,10\n2,1e\n",
-            RowFault::BadNumber(3, 1, NumFault::NotANumber),
-        ),
-        (
+fn ids_of_units_are_refused(rt: HostRuntime) -> Result<(), Fail> {
+    let alloc = rt.alloc();
+    assert!(rt; unit_row(alloc, "id,cost\n1,10\n1,20\n", RowFault::Repeated(3))?);
+    assert!(rt;
+        unit_row(
+            alloc,
             "id,cost\n1.0,10\n",
-            RowFault::BadNumber(2, 0, NumFault::NotANumber),
-        ),
-        (
+            RowFault::BadNumber(2, 0, NumFault::NotANumber)
+        )?
+    );
+    assert!(rt;
+        unit_row(
+            alloc,
             "id,cost\n1,10\n,20\n",
-            RowFault::BadNumber(3, 0, NumFault::Empty),
-        ),
-        (
+            RowFault::BadNumber(3, 0, NumFault::Empty)
+        )?
+    );
+    assert!(rt;
+        unit_row(
+            alloc,
             "id,cost\n-1,10\n",
-            RowFault::BadNumber(2, 0, NumFault::Negative),
-        ),
-        (
+            RowFault::BadNumber(2, 0, NumFault::Negative)
+        )?
+    );
+    assert!(rt;
+        unit_row(
+            alloc,
             "id,cost\n2147483648,10\n",
-            RowFault::BadNumber(2, 0, NumFault::TooLarge),
-        ),
-        ("id,cost\n1,\n", RowFault::BadNumber(2, 1, NumFault::Empty)),
-        (
+            RowFault::BadNumber(2, 0, NumFault::TooLarge)
+        )?
+    );
+    Ok(())
+}
+
+#[test]
+fn costs_of_units_are_refused(rt: HostRuntime) -> Result<(), Fail> {
+    let alloc = rt.alloc();
+    assert!(rt;
+        unit_row(
+            alloc,
+            "id,cost\n1,-5\n",
+            RowFault::BadNumber(2, 1, NumFault::Negative)
+        )?
+    );
+    assert!(rt;
+        unit_row(
+            alloc,
+            "id,cost\n1,10\n2,1e\n",
+            RowFault::BadNumber(3, 1, NumFault::NotANumber)
+        )?
+    );
+    assert!(rt;
+        unit_row(
+            alloc,
+            "id,cost\n1,\n",
+            RowFault::BadNumber(2, 1, NumFault::Empty)
+        )?
+    );
+    assert!(rt;
+        unit_row(
+            alloc,
             "id,cost\n1,100000000000000.0001\n",
-            RowFault::BadNumber(2, 1, NumFault::TooLarge),
-        ),
-    ];
-    for (text, fault) in table {
-        let found = fault_of(rt.alloc(), "", &[("pu.dat", text)])?;
-        assert!(rt;
-            found == Some(InputFault::Row(Which::Units, fault)),
-            "{text}"
-        );
-    }
+            RowFault::BadNumber(2, 1, NumFault::TooLarge)
+        )?
+    );
     Ok(())
 }
 
+/// Whether this file of zone costs is refused for a row.
+fn zone_cost_row(alloc: Global, text: &str, fault: RowFault) -> Result<bool, Fail> {
+    let files = [UNITS, ("f", text)];
+    has_bad_row(alloc, "ZONECOSTNAME f", &files, Which::ZoneCosts, fault)
+}
+
 #[test]
-fn zone_costs_are_refused(rt: HostRuntime) -> Result<(), Fail> {
-    let table = [
-        ("zoneid,costid,multiplier\n3,1,1\n", RowFault::Unknown(2, 0)),
-        (
+fn zone_costs_of_no_pair_are_refused(rt: HostRuntime) -> Result<(), Fail> {
+    let alloc = rt.alloc();
+    assert!(rt;
+        zone_cost_row(
+            alloc,
+            "zoneid,costid,multiplier\n3,1,1\n",
+            RowFault::Unknown(2, 0)
+        )?
+    );
+    assert!(rt;
+        zone_cost_row(
+            alloc,
             "zoneid,costid,multiplier\n1,1,1\n2,2,1\n",
-            RowFault::Unknown(3, 1),
-        ),
-        (
+            RowFault::Unknown(3, 1)
+        )?
+    );
+    assert!(rt;
+        zone_cost_row(
+            alloc,
             "zoneid,costid,multiplier\nz,1,1\n",
-            RowFault::BadNumber(2, 0, NumFault::NotANumber),
-        ),
-        (
+            RowFault::BadNumber(2, 0, NumFault::NotANumber)
+        )?
+    );
+    assert!(rt;
+        zone_cost_row(
+            alloc,
             "zoneid,costid,multiplier\n1,,1\n",
-            RowFault::BadNumber(2, 1, NumFault::Empty),
-        ),
-        (
-            "zoneid,costid,multiplier\n1,1,-1\n",
-            RowFault::BadNumber(2, 2, NumFault::Negative),
-        ),
-        (
+            RowFault::BadNumber(2, 1, NumFault::Empty)
+        )?
+    );
+    assert!(rt;
+        zone_cost_row(
+            alloc,
             "zoneid,costid,multiplier\n2,1,1\n1,1,1\n2,1,1\n",
-            RowFault::Repeated(4),
-        ),
-        (
-            "zoneid,costid,multiplier\n1,1,\n",
-            RowFault::BadNumber(2, 2, NumFault::Empty),
-        ),
-        (
-            "zoneid,costid,multiplier\n1,1,1E13\n",
-            RowFault::BadNumber(2, 2, NumFault::TooLarge),
-        ),
-    ];
-    for (text, fault) in table {
-        let found = fault_of(rt.alloc(), "ZONECOSTNAME f", &[UNITS, ("f", text)])?;
-        assert!(rt;
-            found == Some(InputFault::Row(Which::ZoneCosts, fault)),
-            "{text}"
-        );
-    }
+            RowFault::Repeated(4)
+        )?
+    );
     Ok(())
 }
 
 #[test]
-fn zone_sets_and_locks_are_refused(rt: HostRuntime) -> Result<(), Fail> {
-    let table = [
-        ("puid,zoneid\n4,1\n", RowFault::Unknown(2, 0)),
-        ("puid,zoneid\n1,1\n2,3\n", RowFault::Unknown(3, 1)),
-        (
-            "puid,zoneid\n,1\n",
-            RowFault::BadNumber(2, 0, NumFault::Empty),
-        ),
-        (
-            "puid,zoneid\n-1,1\n",
-            RowFault::BadNumber(2, 0, NumFault::Negative),
-        ),
-        (
-            "puid,zoneid\n1,x\n",
-            RowFault::BadNumber(2, 1, NumFault::NotANumber),
-        ),
-        (
-            "puid,zoneid\n1,1\n2,99999999999\n",
-            RowFault::BadNumber(3, 1, NumFault::TooLarge),
-        ),
-    ];
-    for (text, fault) in table {
-        let sets = fault_of(rt.alloc(), "PUZONENAME f", &[UNITS, ("f", text)])?;
-        assert!(rt;
-            sets == Some(InputFault::Row(Which::ZoneSets, fault)),
-            "sets: {text}"
-        );
-        let locks = fault_of(rt.alloc(), "PULOCKNAME f", &[UNITS, ("f", text)])?;
-        assert!(rt;
-            locks == Some(InputFault::Row(Which::Locks, fault)),
-            "locks: {text}"
-        );
-    }
+fn multipliers_are_refused(rt: HostRuntime) -> Result<(), Fail> {
+    let alloc = rt.alloc();
+    assert!(rt;
+        zone_cost_row(
+            alloc,
+            "zoneid,costid,multiplier\n1,1,-1\n",
+            RowFault::BadNumber(2, 2, NumFault::Negative)
+        )?
+    );
+    assert!(rt;
+        zone_cost_row(
+            alloc,
+            "zoneid,costid,multiplier\n1,1,\n",
+            RowFault::BadNumber(2, 2, NumFault::Empty)
+        )?
+    );
+    assert!(rt;
+        zone_cost_row(
+            alloc,
+            "zoneid,costid,multiplier\n1,1,1E13\n",
+            RowFault::BadNumber(2, 2, NumFault::TooLarge)
+        )?
+    );
     Ok(())
+}
+
+/// Whether this file is refused for a row, both as one of zone sets and as one of locks.
+fn zone_of_unit_row(alloc: Global, text: &str, fault: RowFault) -> Result<bool, Fail> {
+    let files = [UNITS, ("f", text)];
+    let sets = has_bad_row(alloc, "PUZONENAME f", &files, Which::ZoneSets, fault)?;
+    let locks = has_bad_row(alloc, "PULOCKNAME f", &files, Which::Locks, fault)?;
+    Ok(sets && locks)
+}
+
+#[test]
+fn zone_sets_and_locks_of_no_unit_are_refused(rt: HostRuntime) -> Result<(), Fail> {
+    let alloc = rt.alloc();
+    assert!(rt; zone_of_unit_row(alloc, "puid,zoneid\n4,1\n", RowFault::Unknown(2, 0))?);
+    assert!(rt;
+        zone_of_unit_row(
+            alloc,
+            "puid,zoneid\n,1\n",
+            RowFault::BadNumber(2, 0, NumFault::Empty)
+        )?
+    );
+    assert!(rt;
+        zone_of_unit_row(
+            alloc,
+            "puid,zoneid\n-1,1\n",
+            RowFault::BadNumber(2, 0, NumFault::Negative)
+        )?
+    );
+    Ok(())
+}
+
+#[test]
+fn zone_sets_and_locks_of_no_zone_are_refused(rt: HostRuntime) -> Result<(), Fail> {
+    let alloc = rt.alloc();
+    assert!(rt; zone_of_unit_row(alloc, "puid,zoneid\n1,1\n2,3\n", RowFault::Unknown(3, 1))?);
+    assert!(rt;
+        zone_of_unit_row(
+            alloc,
+            "puid,zoneid\n1,x\n",
+            RowFault::BadNumber(2, 1, NumFault::NotANumber)
+        )?
+    );
+    assert!(rt;
+        zone_of_unit_row(
+            alloc,
+            "puid,zoneid\n1,1\n2,99999999999\n",
+            RowFault::BadNumber(3, 1, NumFault::TooLarge)
+        )?
+    );
+    Ok(())
+}
+
+/// Whether this lock file is refused for a row, where the first unit may have the first zone alone.
+fn lock_row(alloc: Global, text: &str, fault: RowFault) -> Result<bool, Fail> {
+    let files = [UNITS, ("s", "puid,zoneid\n1,1\n"), ("f", text)];
+    has_bad_row(
+        alloc,
+        "PUZONENAME s\nPULOCKNAME f",
+        &files,
+        Which::Locks,
+        fault,
+    )
 }
 
 #[test]
 fn locks_conflict_and_repeat(rt: HostRuntime) -> Result<(), Fail> {
-    let table = [
-        ("puid,zoneid\n1,2\n", RowFault::LockConflict(2, 1)),
-        ("puid,zoneid\n2,2\n2,1\n", RowFault::Repeated(3)),
-    ];
-    for (text, fault) in table {
-        let files = [UNITS, ("s", "puid,zoneid\n1,1\n"), ("f", text)];
-        let found = fault_of(rt.alloc(), "PUZONENAME s\nPULOCKNAME f", &files)?;
-        assert!(rt;
-            found == Some(InputFault::Row(Which::Locks, fault)),
-            "{text}"
-        );
-    }
+    let alloc = rt.alloc();
+    assert!(rt; lock_row(alloc, "puid,zoneid\n1,2\n", RowFault::LockConflict(2, 1))?);
+    assert!(rt; lock_row(alloc, "puid,zoneid\n2,2\n2,1\n", RowFault::Repeated(3))?);
     Ok(())
 }
 
 #[test]
-fn other_faults_of_the_input(rt: HostRuntime) -> Result<(), Fail> {
-    let table = [
-        (
-            "AVAILABLEZONE 3",
-            UNITS,
-            InputFault::Param(ParamFault::OutOfRange(Key::AvailableZone)),
-        ),
-        (
-            "BLM x",
-            UNITS,
-            InputFault::Param(ParamFault::BadValue(Key::Blm)),
-        ),
-        (
-            "",
-            ("pu.dat", ""),
-            InputFault::Table(Which::Units, TableFault::NoHeader),
-        ),
-        (
-            "",
-            ("pu.dat", "id,price\n1,2\n"),
-            InputFault::Table(Which::Units, TableFault::ColumnMissing(1)),
-        ),
-    ];
-    for (lines, units, fault) in table {
-        let found = fault_of(rt.alloc(), lines, &[units])?;
-        assert!(rt; found == Some(fault), "{lines}");
-    }
+fn keys_of_the_parameter_file_are_refused(rt: HostRuntime) -> Result<(), Fail> {
+    let alloc = rt.alloc();
+    let available = InputFault::Param(ParamFault::OutOfRange(Key::AvailableZone));
+    let modifier = InputFault::Param(ParamFault::BadValue(Key::Blm));
+    assert!(rt; is_refused(alloc, "AVAILABLEZONE 3", &[UNITS], available)?);
+    assert!(rt; is_refused(alloc, "BLM x", &[UNITS], modifier)?);
     Ok(())
 }
 
 #[test]
-fn costs_have_a_limit(rt: HostRuntime) -> Result<(), Fail> {
-    let above = Some(InputFault::Sum(What::Cost));
-    let table = [
-        (
-            "id,cost\n1,50000000000000\n2,50000000000000\n",
-            "zoneid,costid,multiplier\n",
-            None,
-        ),
-        (
-            "id,cost\n1,50000000000000\n2,50000000000000.0001\n",
-            "zoneid,costid,multiplier\n",
-            above,
-        ),
-        (
-            "id,cost\n1,50000000000000\n2,50000000000000\n3,50000000000000\n",
-            "zoneid,costid,multiplier\n",
-            above,
-        ),
-        (
-            "id,cost\n1,50000000000000\n",
-            "zoneid,costid,multiplier\n2,1,2\n",
-            None,
-        ),
-        (
-            "id,cost\n1,50000000000000.0001\n",
-            "zoneid,costid,multiplier\n2,1,2\n",
-            above,
-        ),
-    ];
-    for (units, multipliers, fault) in table {
-        let files = [("pu.dat", units), ("f", multipliers)];
-        let found = fault_of(rt.alloc(), "ZONECOSTNAME f", &files)?;
-        assert!(rt; found == fault, "{units}");
-    }
+fn unit_files_of_no_form_are_refused(rt: HostRuntime) -> Result<(), Fail> {
+    let alloc = rt.alloc();
+    let empty = InputFault::Table(Which::Units, TableFault::NoHeader);
+    let unpriced = InputFault::Table(Which::Units, TableFault::ColumnMissing(1));
+    assert!(rt; is_refused(alloc, "", &[("pu.dat", "")], empty)?);
+    assert!(rt; is_refused(alloc, "", &[("pu.dat", "id,price\n1,2\n")], unpriced)?);
     Ok(())
 }
 
-/// The name of the file that isn't there; none where there is another answer.
-fn missing(alloc: Global, lines: &str) -> Result<Option<String>, Fail> {
+/// Whether the costs of these units are above their limit.
+fn costs_are_above<'a>(alloc: Global, units: &'a str, multipliers: &'a str) -> Result<bool, Fail> {
+    let files = [("pu.dat", units), ("f", multipliers)];
+    is_above(alloc, "ZONECOSTNAME f", &files, What::Cost)
+}
+
+fn costs_are_taken<'a>(alloc: Global, units: &'a str, multipliers: &'a str) -> Result<bool, Fail> {
+    let files = [("pu.dat", units), ("f", multipliers)];
+    is_taken(alloc, "ZONECOSTNAME f", &files)
+}
+
+#[test]
+fn all_costs_have_a_limit(rt: HostRuntime) -> Result<(), Fail> {
+    let alloc = rt.alloc();
+    let none = "zoneid,costid,multiplier\n";
+    let at = "id,cost\n1,50000000000000\n2,50000000000000\n";
+    let above = "id,cost\n1,50000000000000\n2,50000000000000.0001\n";
+    let three = "id,cost\n1,50000000000000\n2,50000000000000\n3,50000000000000\n";
+    assert!(rt; costs_are_taken(alloc, at, none)?);
+    assert!(rt; costs_are_above(alloc, above, none)?);
+    assert!(rt; costs_are_above(alloc, three, none)?);
+    Ok(())
+}
+
+#[test]
+fn costs_in_the_dearest_zones_have_a_limit(rt: HostRuntime) -> Result<(), Fail> {
+    let alloc = rt.alloc();
+    let twice = "zoneid,costid,multiplier\n2,1,2\n";
+    let at = "id,cost\n1,50000000000000\n";
+    let above = "id,cost\n1,50000000000000.0001\n";
+    assert!(rt; costs_are_taken(alloc, at, twice)?);
+    assert!(rt; costs_are_above(alloc, above, twice)?);
+    Ok(())
+}
+
+/// Whether a project with these lines names a file of this name that isn't there.
+fn misses(alloc: Global, lines: &str, name: &str) -> Result<bool, Fail> {
     let mut shelf = shelf_of(alloc, lines, &[UNITS])?;
     match read(alloc, &mut shelf) {
-        Err(ReadFault::Absent(name)) => Ok(Some(name.into_string())),
-        _ => Ok(None),
+        Err(ReadFault::Absent(missing)) => Ok(missing.as_str() == name),
+        _ => Ok(false),
     }
 }
 
 #[test]
 fn a_given_file_must_be_there(rt: HostRuntime) -> Result<(), Fail> {
-    let Some(name) = missing(rt.alloc(), "INPUTDIR in\nZONESNAME z.dat")? else {
-        panic!(rt; "there");
-    };
-    assert_eq!(rt; name.as_str(), "in/z.dat");
+    assert!(rt; misses(rt.alloc(), "INPUTDIR in\nZONESNAME z.dat", "in/z.dat")?);
     Ok(())
 }

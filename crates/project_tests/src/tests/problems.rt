@@ -23,33 +23,39 @@ fn term_of(
     }
 }
 
+/// Whether the one unit of a project costs this much in the second zone, and nothing in the first.
+fn costs_in_second(alloc: Global, multipliers: &str, cost: u64) -> Result<bool, Fail> {
+    let lines = "COSTSNAME c\nZONECOSTNAME m";
+    let files = [
+        ("c", "costid,costname\n1,cost\n2,hire\n"),
+        ("pu.dat", "id,cost,hire\n1,10,4\n"),
+        ("m", multipliers),
+    ];
+    let first = term_of(alloc, lines, &files, 0, 0)?;
+    let second = term_of(alloc, lines, &files, 0, 1)?;
+    Ok(first == Some(0) && second == Some(cost))
+}
+
 #[test]
 fn costs_are_weighed_by_zone(rt: HostRuntime) -> Result<(), Fail> {
-    let lines = "COSTSNAME c\nZONECOSTNAME m";
-    let costs = ("c", "costid,costname\n1,cost\n2,hire\n");
-    let units = ("pu.dat", "id,cost,hire\n1,10,4\n");
-    let table = [
-        ("zoneid,costid,multiplier\n2,1,0.5\n2,2,1\n", 0, 90_000),
-        ("zoneid,costid,multiplier\n2,1,0.333335\n", 0, 33_334),
-    ];
-    for (multipliers, in_first, in_second) in table {
-        let files = [costs, units, ("m", multipliers)];
-        assert_eq!(rt; term_of(rt.alloc(), lines, &files, 0, 0)?, Some(in_first));
-        assert_eq!(rt; term_of(rt.alloc(), lines, &files, 0, 1)?, Some(in_second));
-    }
+    let alloc = rt.alloc();
+    let both = "zoneid,costid,multiplier\n2,1,0.5\n2,2,1\n";
+    let one = "zoneid,costid,multiplier\n2,1,0.333335\n";
+    assert!(rt; costs_in_second(alloc, both, 90_000)?);
+    assert!(rt; costs_in_second(alloc, one, 33_334)?);
     Ok(())
 }
 
 #[test]
 fn a_unit_costs_nothing_in_the_available_zone(rt: HostRuntime) -> Result<(), Fail> {
-    let table = [("", 0, 100_000), ("AVAILABLEZONE 2", 100_000, 0)];
-    for (lines, in_first, in_second) in table {
-        assert_eq!(rt; term_of(rt.alloc(), lines, &[UNITS], 0, 0)?, Some(in_first));
-        assert_eq!(rt;
-            term_of(rt.alloc(), lines, &[UNITS], 0, 1)?,
-            Some(in_second)
-        );
-    }
+    let alloc = rt.alloc();
+    assert_eq!(rt; term_of(alloc, "", &[UNITS], 0, 0)?, Some(0));
+    assert_eq!(rt; term_of(alloc, "", &[UNITS], 0, 1)?, Some(100_000));
+    assert_eq!(rt;
+        term_of(alloc, "AVAILABLEZONE 2", &[UNITS], 0, 0)?,
+        Some(100_000)
+    );
+    assert_eq!(rt; term_of(alloc, "AVAILABLEZONE 2", &[UNITS], 0, 1)?, Some(0));
     Ok(())
 }
 
@@ -68,18 +74,14 @@ fn counts(
 
 #[test]
 fn locks_and_zone_sets_limit_units(rt: HostRuntime) -> Result<(), Fail> {
-    let table = [
-        ("", "", (3, 3)),
-        ("PULOCKNAME f", "puid,zoneid\n3,2\n", (3, 2)),
-        ("PUZONENAME f", "puid,zoneid\n1,2\n2,1\n2,2\n2,1\n", (3, 2)),
-        ("PULOCKNAME f", "puid,zoneid\n1,1\n2,1\n3,2\n", (3, 0)),
-    ];
-    for (lines, text, wanted) in table {
-        assert_eq!(rt;
-            counts(rt.alloc(), lines, &[UNITS, ("f", text)])?,
-            Some(wanted)
-        );
-    }
+    let alloc = rt.alloc();
+    let one = [UNITS, ("f", "puid,zoneid\n3,2\n")];
+    let sets = [UNITS, ("f", "puid,zoneid\n1,2\n2,1\n2,2\n2,1\n")];
+    let all = [UNITS, ("f", "puid,zoneid\n1,1\n2,1\n3,2\n")];
+    assert_eq!(rt; counts(alloc, "", &[UNITS])?, Some((3, 3)));
+    assert_eq!(rt; counts(alloc, "PULOCKNAME f", &one)?, Some((3, 2)));
+    assert_eq!(rt; counts(alloc, "PUZONENAME f", &sets)?, Some((3, 2)));
+    assert_eq!(rt; counts(alloc, "PULOCKNAME f", &all)?, Some((3, 0)));
     Ok(())
 }
 

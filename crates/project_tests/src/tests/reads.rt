@@ -1,14 +1,24 @@
 //! Which files are read, and in which order: where call number `call` fails, the name is that of its file.
-use super::{UNITS, put_files, read};
+use super::{UNITS, read, shelf_that_fails};
 use mz_project::ReadFault;
-use mz_shelf::MemShelf;
 use std::alloc::Global;
 use std::test::Fail;
 
+const EVERY_FILE: &str = "ZONESNAME z
+COSTSNAME c
+ZONECOSTNAME m
+FEATNAME f
+PUVSFEATNAME a
+ZONECONTRIBNAME q
+ZONETARGETNAME t
+PUZONENAME s
+PULOCKNAME l
+BOUNDNAME b
+ZONEBOUNDCOSTNAME k";
+
 /// The name of the file whose read fails where that call does; `none` where every call is done.
 fn read_by(alloc: Global, lines: &str, files: &[(&str, &str)], call: u64) -> Result<String, Fail> {
-    let mut shelf = MemShelf::new(alloc, vec![in alloc; call]?, 0)?;
-    put_files(alloc, &mut shelf, lines, files)?;
+    let mut shelf = shelf_that_fails(alloc, vec![in alloc; call]?, lines, files)?;
     match read(alloc, &mut shelf) {
         Err(ReadFault::Shelf(name)) => Ok(name.into_string()),
         Ok(_) => Ok(String::from_str(alloc, "none")?),
@@ -16,10 +26,8 @@ fn read_by(alloc: Global, lines: &str, files: &[(&str, &str)], call: u64) -> Res
     }
 }
 
-#[test]
-fn each_given_file_is_read_once_and_in_order(rt: HostRuntime) -> Result<(), Fail> {
-    let lines =
-        "ZONESNAME z\nCOSTSNAME c\nZONECOSTNAME m\nFEATNAME f\nPUVSFEATNAME a\nZONECONTRIBNAME q\nZONETARGETNAME t\nPUZONENAME s\nPULOCKNAME l\nBOUNDNAME b\nZONEBOUNDCOSTNAME k";
+/// The name of the file whose read fails in a project that gives every file.
+fn read_of_every(alloc: Global, call: u64) -> Result<String, Fail> {
     let files = [
         ("z", "id,name\n1,a\n2,b\n"),
         ("c", "costid,costname\n1,cost\n"),
@@ -34,6 +42,11 @@ fn each_given_file_is_read_once_and_in_order(rt: HostRuntime) -> Result<(), Fail
         ("b", "id1,id2,boundary\n1,1,2\n"),
         ("k", "zoneid1,zoneid2,cost\n1,2,1\n"),
     ];
+    read_by(alloc, EVERY_FILE, &files, call)
+}
+
+#[test]
+fn each_given_file_is_read_once_and_in_order(rt: HostRuntime) -> Result<(), Fail> {
     let names = [
         "input.dat",
         "z",
@@ -51,7 +64,7 @@ fn each_given_file_is_read_once_and_in_order(rt: HostRuntime) -> Result<(), Fail
         "none",
     ];
     for (call, name) in names.iter().enumerate() {
-        let found = read_by(rt.alloc(), lines, &files, call as u64)?;
+        let found = read_of_every(rt.alloc(), call as u64)?;
         assert_eq!(rt; found.as_str(), *name);
     }
     Ok(())

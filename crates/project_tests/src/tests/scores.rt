@@ -34,34 +34,57 @@ fn scored(alloc: Global, problem: &Problem, zones: &[u8]) -> Option<(u128, u128,
 
 #[test]
 fn plans_without_boundaries(rt: HostRuntime) -> Result<(), Fail> {
-    let half = ("feat.dat", "id,target,prop,spf\n1,4,0.5,2\n");
-    let table = [
-        (FEATURES, [0, 0, 0], (0, 0, 600_000)),
-        (FEATURES, [1, 0, 0], (100_000, 0, 300_000)),
-        (FEATURES, [0, 0, 1], (300_000, 0, 0)),
-        // Half of 9 is asked, the first two units reach it, and 2 is held.
-        (half, [1, 0, 0], (100_000, 0, 333_333)),
-    ];
-    for (features, zones, score) in table {
-        let files = [UNITS, features, AMOUNTS];
-        assert_eq!(rt; score_of(rt.alloc(), TARGETS, &files, &zones)?, Some(score));
-    }
+    let alloc = rt.alloc();
+    let files = [UNITS, FEATURES, AMOUNTS];
+    assert_eq!(rt;
+        score_of(alloc, TARGETS, &files, &[0, 0, 0])?,
+        Some((0, 0, 600_000))
+    );
+    assert_eq!(rt;
+        score_of(alloc, TARGETS, &files, &[1, 0, 0])?,
+        Some((100_000, 0, 300_000))
+    );
+    assert_eq!(rt;
+        score_of(alloc, TARGETS, &files, &[0, 0, 1])?,
+        Some((300_000, 0, 0))
+    );
     Ok(())
+}
+
+/// Half of 9 is asked, the first two units reach it, and 2 is held.
+#[test]
+fn a_plan_that_misses_a_share(rt: HostRuntime) -> Result<(), Fail> {
+    let half = ("feat.dat", "id,target,prop,spf\n1,4,0.5,2\n");
+    let found = score_of(rt.alloc(), TARGETS, &[UNITS, half, AMOUNTS], &[1, 0, 0])?;
+    assert_eq!(rt; found, Some((100_000, 0, 333_333)));
+    Ok(())
+}
+
+/// The score of a plan of the project with boundaries.
+fn bounded_score(alloc: Global, zones: &[u8]) -> Result<Option<(u128, u128, u128)>, Fail> {
+    score_of(alloc, ALL, &[UNITS, FEATURES, AMOUNTS, BOUNDS], zones)
 }
 
 #[test]
 fn plans_with_boundaries(rt: HostRuntime) -> Result<(), Fail> {
-    let table = [
-        ([0, 0, 0], (0, 0, 600_000)),
-        ([1, 0, 0], (100_000, 70_000, 300_000)),
-        ([0, 0, 1], (300_000, 70_000, 0)),
-        ([1, 1, 0], (300_000, 90_000, 0)),
-        ([1, 1, 1], (600_000, 20_000, 0)),
-    ];
-    for (zones, score) in table {
-        let files = [UNITS, FEATURES, AMOUNTS, BOUNDS];
-        assert_eq!(rt; score_of(rt.alloc(), ALL, &files, &zones)?, Some(score));
-    }
+    let alloc = rt.alloc();
+    assert_eq!(rt; bounded_score(alloc, &[0, 0, 0])?, Some((0, 0, 600_000)));
+    assert_eq!(rt;
+        bounded_score(alloc, &[1, 0, 0])?,
+        Some((100_000, 70_000, 300_000))
+    );
+    assert_eq!(rt;
+        bounded_score(alloc, &[0, 0, 1])?,
+        Some((300_000, 70_000, 0))
+    );
+    assert_eq!(rt;
+        bounded_score(alloc, &[1, 1, 0])?,
+        Some((300_000, 90_000, 0))
+    );
+    assert_eq!(rt;
+        bounded_score(alloc, &[1, 1, 1])?,
+        Some((600_000, 20_000, 0))
+    );
     Ok(())
 }
 
@@ -79,94 +102,88 @@ fn features_that_no_unit_holds(rt: HostRuntime) -> Result<(), Fail> {
     Ok(())
 }
 
+const THREE_ZONES: &str = "FEATNAME feat.dat
+PUVSFEATNAME amounts.dat
+BOUNDNAME bound.dat
+BLM 1
+ZONESNAME z
+ZONECONTRIBNAME q
+ZONETARGETNAME t";
+
+/// The score of a plan of a project of three zones with these zone targets.
+fn score_in_three_zones(alloc: Global, targets: &str) -> Result<Option<(u128, u128, u128)>, Fail> {
+    let files = [
+        UNITS,
+        FEATURES,
+        AMOUNTS,
+        BOUNDS,
+        ("z", "zoneid,zonename\n1,a\n2,b\n3,c\n"),
+        ("q", "zoneid,featureid,fraction\n2,1,0.5\n3,1,1\n"),
+        ("t", targets),
+    ];
+    score_of(alloc, THREE_ZONES, &files, &[2, 1, 0])
+}
+
 #[test]
 fn three_zones_with_contributions_and_a_zone_target(rt: HostRuntime) -> Result<(), Fail> {
-    let lines =
-        "FEATNAME feat.dat\nPUVSFEATNAME amounts.dat\nBOUNDNAME bound.dat\nBLM 1\nZONESNAME z\nZONECONTRIBNAME q\nZONETARGETNAME t";
-    let contributions = ("q", "zoneid,featureid,fraction\n2,1,0.5\n3,1,1\n");
-    let zones = ("z", "zoneid,zonename\n1,a\n2,b\n3,c\n");
-    let table = [
-        (
-            "zoneid,featureid,target\n3,1,4\n",
-            (300_000, 140_000, 375_000),
-        ),
-        // Half of 9 is asked in the third zone, and 2 is held there.
-        (
-            "zoneid,featureid,target,targettype\n3,1,0.5,1\n",
-            (300_000, 140_000, 408_333),
-        ),
-    ];
-    for (targets, score) in table {
-        let files = [
-            UNITS,
-            FEATURES,
-            AMOUNTS,
-            BOUNDS,
-            zones,
-            contributions,
-            ("t", targets),
-        ];
-        assert_eq!(rt;
-            score_of(rt.alloc(), lines, &files, &[2, 1, 0])?,
-            Some(score)
-        );
-    }
+    let found = score_in_three_zones(rt.alloc(), "zoneid,featureid,target\n3,1,4\n")?;
+    assert_eq!(rt; found, Some((300_000, 140_000, 375_000)));
     Ok(())
+}
+
+/// Half of 9 is asked in the third zone, and 2 is held there.
+#[test]
+fn a_zone_target_may_be_a_share(rt: HostRuntime) -> Result<(), Fail> {
+    let targets = "zoneid,featureid,target,targettype\n3,1,0.5,1\n";
+    let found = score_in_three_zones(rt.alloc(), targets)?;
+    assert_eq!(rt; found, Some((300_000, 140_000, 408_333)));
+    Ok(())
+}
+
+/// Whether the boundary of a plan of a project with these boundaries has this cost.
+fn has_boundary<'a>(
+    alloc: Global,
+    lines: &str,
+    bounds: &'a str,
+    costs: &'a str,
+    zones: &[u8],
+    boundary: u128,
+) -> Result<bool, Fail> {
+    let files = [UNITS, ("b", bounds), ("k", costs)];
+    match score_of(alloc, lines, &files, zones)? {
+        Some(score) => Ok(score.1 == boundary),
+        None => Ok(false),
+    }
 }
 
 #[test]
 fn boundaries_are_added_and_weighed(rt: HostRuntime) -> Result<(), Fail> {
-    let costs = "ZONEBOUNDCOSTNAME k\nBLM 1";
-    let table = [
-        (
-            "BLM 1",
-            "id1,id2,boundary\n1,2,3\n2,1,2\n",
-            "",
-            [1, 0, 0],
-            50_000,
-        ),
-        (
-            "BLM 1",
-            "id1,id2,boundary\n1,1,3\n1,1,2\n",
-            "",
-            [1, 0, 0],
-            50_000,
-        ),
-        (
-            "BLM 0.5",
-            "id1,id2,boundary\n1,2,0.0001\n",
-            "",
-            [1, 0, 0],
-            1,
-        ),
-        (
-            costs,
-            "id1,id2,boundary\n1,2,5\n2,3,7\n1,1,2\n",
-            "zoneid1,zoneid2,cost\n1,2,0.5\n",
-            [1, 0, 0],
-            35_000,
-        ),
-        (
-            costs,
-            "id1,id2,boundary\n1,2,5\n2,3,7\n1,1,2\n",
-            "zoneid1,zoneid2,cost\n1,2,0.5\n2,1,0.5\n",
-            [1, 0, 0],
-            35_000,
-        ),
-        (
-            costs,
-            "id1,id2,boundary\n1,2,5\n2,3,7\n1,1,2\n",
-            "zoneid1,zoneid2,cost\n2,2,1\n",
-            [1, 1, 0],
-            50_000,
-        ),
-    ];
-    for (lines, bounds, costs, zones, boundary) in table {
-        let lines = format!(in rt.alloc(); "BOUNDNAME b\n{lines}")?;
-        let files = [UNITS, ("b", bounds), ("k", costs)];
-        let found = score_of(rt.alloc(), lines.as_str(), &files, &zones)?;
-        assert!(rt; found.map(|score| score.1) == Some(boundary), "{bounds}");
-    }
+    let alloc = rt.alloc();
+    let lines = "BOUNDNAME b\nBLM 1";
+    let pairs = "id1,id2,boundary\n1,2,3\n2,1,2\n";
+    let outer = "id1,id2,boundary\n1,1,3\n1,1,2\n";
+    let short = "id1,id2,boundary\n1,2,0.0001\n";
+    assert!(rt; has_boundary(alloc, lines, pairs, "", &[1, 0, 0], 50_000)?);
+    assert!(rt; has_boundary(alloc, lines, outer, "", &[1, 0, 0], 50_000)?);
+    assert!(rt; has_boundary(alloc, "BOUNDNAME b\nBLM 0.5", short, "", &[1, 0, 0], 1)?);
+    Ok(())
+}
+
+/// The same with these costs between zones.
+fn has_boundary_at(alloc: Global, costs: &str, zones: &[u8], boundary: u128) -> Result<bool, Fail> {
+    let lines = "BOUNDNAME b\nZONEBOUNDCOSTNAME k\nBLM 1";
+    has_boundary(alloc, lines, BOUNDS.1, costs, zones, boundary)
+}
+
+#[test]
+fn boundaries_between_zones_have_costs(rt: HostRuntime) -> Result<(), Fail> {
+    let alloc = rt.alloc();
+    let once = "zoneid1,zoneid2,cost\n1,2,0.5\n";
+    let twice = "zoneid1,zoneid2,cost\n1,2,0.5\n2,1,0.5\n";
+    let within = "zoneid1,zoneid2,cost\n2,2,1\n";
+    assert!(rt; has_boundary_at(alloc, once, &[1, 0, 0], 35_000)?);
+    assert!(rt; has_boundary_at(alloc, twice, &[1, 0, 0], 35_000)?);
+    assert!(rt; has_boundary_at(alloc, within, &[1, 1, 0], 50_000)?);
     Ok(())
 }
 

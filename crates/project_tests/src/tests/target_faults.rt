@@ -1,5 +1,5 @@
 //! Why files of features, amounts, contributions, zone targets and boundaries are refused.
-use super::{AMOUNTS, FEATURES, UNITS, fault_of, put_files, read};
+use super::{AMOUNTS, FEATURES, UNITS, fault_of, has_bad_row, read, shelf_of};
 use mz_num::NumFault;
 use mz_project::{InputFault, Which};
 use mz_shelf::MemShelf;
@@ -9,75 +9,114 @@ use std::test::Fail;
 
 const TARGETS: &str = "FEATNAME feat.dat\nPUVSFEATNAME amounts.dat";
 
+/// Whether this feature file is refused for a row.
+fn feature_row(alloc: Global, text: &str, fault: RowFault) -> Result<bool, Fail> {
+    let files = [UNITS, ("feat.dat", text), AMOUNTS];
+    has_bad_row(alloc, TARGETS, &files, Which::Features, fault)
+}
+
 #[test]
-fn features_are_refused(rt: HostRuntime) -> Result<(), Fail> {
-    let table = [
-        ("id\nx\n", RowFault::BadNumber(2, 0, NumFault::NotANumber)),
-        (
+fn numbers_of_features_are_refused(rt: HostRuntime) -> Result<(), Fail> {
+    let alloc = rt.alloc();
+    assert!(rt;
+        feature_row(
+            alloc,
+            "id\nx\n",
+            RowFault::BadNumber(2, 0, NumFault::NotANumber)
+        )?
+    );
+    assert!(rt;
+        feature_row(
+            alloc,
             "id,target\n1,-4\n",
-            RowFault::BadNumber(2, 1, NumFault::Negative),
-        ),
-        (
+            RowFault::BadNumber(2, 1, NumFault::Negative)
+        )?
+    );
+    assert!(rt;
+        feature_row(
+            alloc,
             "id,prop\n1,1e\n",
-            RowFault::BadNumber(2, 2, NumFault::NotANumber),
-        ),
-        (
+            RowFault::BadNumber(2, 2, NumFault::NotANumber)
+        )?
+    );
+    assert!(rt;
+        feature_row(
+            alloc,
             "id,spf\n1,1\n2,1E13\n",
-            RowFault::BadNumber(3, 3, NumFault::TooLarge),
-        ),
-        (
+            RowFault::BadNumber(3, 3, NumFault::TooLarge)
+        )?
+    );
+    assert!(rt;
+        feature_row(
+            alloc,
             "id,fpf\n1,x\n",
-            RowFault::BadNumber(2, 3, NumFault::NotANumber),
-        ),
-        ("id,target2\n1,1\n", RowFault::LeftOut(2, 5)),
-        ("id,sepnum\n1,2\n", RowFault::LeftOut(2, 6)),
-        ("id,sepdistance\n1,0\n2,3\n", RowFault::LeftOut(3, 7)),
-        (
-            "id,targetocc\n1,x\n",
-            RowFault::BadNumber(2, 8, NumFault::NotANumber),
-        ),
-        ("id\n1\n2\n01\n", RowFault::Repeated(4)),
-    ];
-    for (text, fault) in table {
-        let files = [UNITS, ("feat.dat", text), AMOUNTS];
-        let found = fault_of(rt.alloc(), TARGETS, &files)?;
-        assert!(rt;
-            found == Some(InputFault::Row(Which::Features, fault)),
-            "{text}"
-        );
-    }
+            RowFault::BadNumber(2, 3, NumFault::NotANumber)
+        )?
+    );
     Ok(())
 }
 
 #[test]
+fn other_rows_of_features_are_refused(rt: HostRuntime) -> Result<(), Fail> {
+    let alloc = rt.alloc();
+    assert!(rt; feature_row(alloc, "id,target2\n1,1\n", RowFault::LeftOut(2, 5))?);
+    assert!(rt; feature_row(alloc, "id,sepnum\n1,2\n", RowFault::LeftOut(2, 6))?);
+    assert!(rt; feature_row(alloc, "id,sepdistance\n1,0\n2,3\n", RowFault::LeftOut(3, 7))?);
+    assert!(rt;
+        feature_row(
+            alloc,
+            "id,targetocc\n1,x\n",
+            RowFault::BadNumber(2, 8, NumFault::NotANumber)
+        )?
+    );
+    assert!(rt; feature_row(alloc, "id\n1\n2\n01\n", RowFault::Repeated(4))?);
+    Ok(())
+}
+
+/// Whether this amount file is refused for a row.
+fn amount_row(alloc: Global, text: &str, fault: RowFault) -> Result<bool, Fail> {
+    let files = [UNITS, FEATURES, ("amounts.dat", text)];
+    has_bad_row(alloc, TARGETS, &files, Which::Amounts, fault)
+}
+
+#[test]
 fn amounts_are_refused(rt: HostRuntime) -> Result<(), Fail> {
-    let table = [
-        ("featureid,puid,amount\n1,9,2\n", RowFault::Unknown(2, 1)),
-        (
+    let alloc = rt.alloc();
+    assert!(rt;
+        amount_row(
+            alloc,
+            "featureid,puid,amount\n1,9,2\n",
+            RowFault::Unknown(2, 1)
+        )?
+    );
+    assert!(rt;
+        amount_row(
+            alloc,
             "featureid,puid,amount\n1,1,2\n2,1,2\n",
-            RowFault::Unknown(3, 0),
-        ),
-        (
+            RowFault::Unknown(3, 0)
+        )?
+    );
+    assert!(rt;
+        amount_row(
+            alloc,
             "featureid,puid,amount\nf,1,2\n",
-            RowFault::BadNumber(2, 0, NumFault::NotANumber),
-        ),
-        (
+            RowFault::BadNumber(2, 0, NumFault::NotANumber)
+        )?
+    );
+    assert!(rt;
+        amount_row(
+            alloc,
             "featureid,puid,amount\n1,,2\n",
-            RowFault::BadNumber(2, 1, NumFault::Empty),
-        ),
-        (
+            RowFault::BadNumber(2, 1, NumFault::Empty)
+        )?
+    );
+    assert!(rt;
+        amount_row(
+            alloc,
             "featureid,puid,amount\n1,1,-2\n",
-            RowFault::BadNumber(2, 2, NumFault::Negative),
-        ),
-    ];
-    for (text, fault) in table {
-        let files = [UNITS, FEATURES, ("amounts.dat", text)];
-        let found = fault_of(rt.alloc(), TARGETS, &files)?;
-        assert!(rt;
-            found == Some(InputFault::Row(Which::Amounts, fault)),
-            "{text}"
-        );
-    }
+            RowFault::BadNumber(2, 2, NumFault::Negative)
+        )?
+    );
     Ok(())
 }
 
@@ -120,140 +159,190 @@ fn a_cut_amount_file_is_refused_where_it_was_cut(rt: HostRuntime) -> Result<(), 
     Ok(())
 }
 
+/// Whether this file of contributions is refused for a row.
+fn contribution_row(alloc: Global, text: &str, fault: RowFault) -> Result<bool, Fail> {
+    let lines = "FEATNAME feat.dat\nPUVSFEATNAME amounts.dat\nZONECONTRIBNAME q";
+    let files = [UNITS, FEATURES, AMOUNTS, ("q", text)];
+    has_bad_row(alloc, lines, &files, Which::Contribs, fault)
+}
+
 #[test]
 fn contributions_are_refused(rt: HostRuntime) -> Result<(), Fail> {
-    let lines = "FEATNAME feat.dat\nPUVSFEATNAME amounts.dat\nZONECONTRIBNAME q";
-    let table = [
-        (
+    let alloc = rt.alloc();
+    assert!(rt;
+        contribution_row(
+            alloc,
             "zoneid,featureid,fraction\n3,1,1\n",
-            RowFault::Unknown(2, 0),
-        ),
-        (
+            RowFault::Unknown(2, 0)
+        )?
+    );
+    assert!(rt;
+        contribution_row(
+            alloc,
             "zoneid,featureid,fraction\n2,5,1\n",
-            RowFault::Unknown(2, 1),
-        ),
-        (
+            RowFault::Unknown(2, 1)
+        )?
+    );
+    assert!(rt;
+        contribution_row(
+            alloc,
             "zoneid,featureid,fraction\n2,1,\n",
-            RowFault::BadNumber(2, 2, NumFault::Empty),
-        ),
-        (
+            RowFault::BadNumber(2, 2, NumFault::Empty)
+        )?
+    );
+    assert!(rt;
+        contribution_row(
+            alloc,
             "zoneid,featureid,fraction\n2,1,1\n1,1,1\n2,1,1\n",
-            RowFault::Repeated(4),
-        ),
-    ];
-    for (text, fault) in table {
-        let files = [UNITS, FEATURES, AMOUNTS, ("q", text)];
-        let found = fault_of(rt.alloc(), lines, &files)?;
-        assert!(rt;
-            found == Some(InputFault::Row(Which::Contribs, fault)),
-            "{text}"
-        );
-    }
+            RowFault::Repeated(4)
+        )?
+    );
     Ok(())
+}
+
+/// Whether this file of zone targets is refused for a row.
+fn zone_target_row(alloc: Global, text: &str, fault: RowFault) -> Result<bool, Fail> {
+    let lines = "FEATNAME feat.dat\nPUVSFEATNAME amounts.dat\nZONETARGETNAME t";
+    let files = [UNITS, FEATURES, AMOUNTS, ("t", text)];
+    has_bad_row(alloc, lines, &files, Which::ZoneTargets, fault)
 }
 
 #[test]
 fn zone_targets_are_refused(rt: HostRuntime) -> Result<(), Fail> {
-    let lines = "FEATNAME feat.dat\nPUVSFEATNAME amounts.dat\nZONETARGETNAME t";
-    let table = [
-        (
+    let alloc = rt.alloc();
+    assert!(rt;
+        zone_target_row(
+            alloc,
             "zoneid,featureid,target,targettype\n2,1,4,4\n",
-            RowFault::LeftOut(2, 3),
-        ),
-        (
+            RowFault::LeftOut(2, 3)
+        )?
+    );
+    assert!(rt;
+        zone_target_row(
+            alloc,
             "zoneid,featureid,target,targettype\n2,1,4,x\n",
-            RowFault::BadNumber(2, 3, NumFault::NotANumber),
-        ),
-        (
+            RowFault::BadNumber(2, 3, NumFault::NotANumber)
+        )?
+    );
+    assert!(rt;
+        zone_target_row(
+            alloc,
             "zoneid,featureid,target,targettype\n2,1,y,4\n",
-            RowFault::BadNumber(2, 2, NumFault::NotANumber),
-        ),
-        (
-            "zoneid,featureid,target\n2,1,4\n3,1,4\n",
-            RowFault::Unknown(3, 0),
-        ),
-        ("zoneid,featureid,target\n2,2,4\n", RowFault::Unknown(2, 1)),
-        (
-            "zoneid,featureid,target\n2,1,4\n2,1,5\n",
-            RowFault::Repeated(3),
-        ),
-    ];
-    for (text, fault) in table {
-        let files = [UNITS, FEATURES, AMOUNTS, ("t", text)];
-        let found = fault_of(rt.alloc(), lines, &files)?;
-        assert!(rt;
-            found == Some(InputFault::Row(Which::ZoneTargets, fault)),
-            "{text}"
-        );
-    }
+            RowFault::BadNumber(2, 2, NumFault::NotANumber)
+        )?
+    );
     Ok(())
+}
+
+#[test]
+fn zone_targets_of_no_pair_are_refused(rt: HostRuntime) -> Result<(), Fail> {
+    let alloc = rt.alloc();
+    assert!(rt;
+        zone_target_row(
+            alloc,
+            "zoneid,featureid,target\n2,1,4\n3,1,4\n",
+            RowFault::Unknown(3, 0)
+        )?
+    );
+    assert!(rt;
+        zone_target_row(
+            alloc,
+            "zoneid,featureid,target\n2,2,4\n",
+            RowFault::Unknown(2, 1)
+        )?
+    );
+    assert!(rt;
+        zone_target_row(
+            alloc,
+            "zoneid,featureid,target\n2,1,4\n2,1,5\n",
+            RowFault::Repeated(3)
+        )?
+    );
+    Ok(())
+}
+
+/// Whether this boundary file is refused for a row.
+fn bound_row(alloc: Global, text: &str, fault: RowFault) -> Result<bool, Fail> {
+    let files = [UNITS, ("b", text)];
+    has_bad_row(alloc, "BOUNDNAME b", &files, Which::Bounds, fault)
 }
 
 #[test]
 fn boundaries_are_refused(rt: HostRuntime) -> Result<(), Fail> {
-    let table = [
-        ("id1,id2,boundary\n1,9,2\n", RowFault::Unknown(2, 1)),
-        ("id1,id2,boundary\n1,2,2\n9,1,2\n", RowFault::Unknown(3, 0)),
-        (
+    let alloc = rt.alloc();
+    assert!(rt; bound_row(alloc, "id1,id2,boundary\n1,9,2\n", RowFault::Unknown(2, 1))?);
+    assert!(rt;
+        bound_row(
+            alloc,
+            "id1,id2,boundary\n1,2,2\n9,1,2\n",
+            RowFault::Unknown(3, 0)
+        )?
+    );
+    assert!(rt;
+        bound_row(
+            alloc,
             "id1,id2,boundary\n1,2,\n",
-            RowFault::BadNumber(2, 2, NumFault::Empty),
-        ),
-    ];
-    for (text, fault) in table {
-        let found = fault_of(rt.alloc(), "BOUNDNAME b", &[UNITS, ("b", text)])?;
-        assert!(rt;
-            found == Some(InputFault::Row(Which::Bounds, fault)),
-            "{text}"
-        );
-    }
+            RowFault::BadNumber(2, 2, NumFault::Empty)
+        )?
+    );
     Ok(())
+}
+
+/// Whether this file of zone boundary costs is refused for a row.
+fn zone_bound_row(alloc: Global, text: &str, fault: RowFault) -> Result<bool, Fail> {
+    let files = [UNITS, ("k", text)];
+    has_bad_row(
+        alloc,
+        "ZONEBOUNDCOSTNAME k",
+        &files,
+        Which::ZoneBounds,
+        fault,
+    )
 }
 
 #[test]
 fn zone_boundary_costs_are_refused(rt: HostRuntime) -> Result<(), Fail> {
-    let table = [
-        (
+    let alloc = rt.alloc();
+    assert!(rt;
+        zone_bound_row(
+            alloc,
             "zoneid1,zoneid2,cost\n1,2,0.5\n2,1,0.6\n",
-            RowFault::Repeated(3),
-        ),
-        ("zoneid1,zoneid2,cost\n1,3,1\n", RowFault::Unknown(2, 1)),
-        (
+            RowFault::Repeated(3)
+        )?
+    );
+    assert!(rt;
+        zone_bound_row(
+            alloc,
+            "zoneid1,zoneid2,cost\n1,3,1\n",
+            RowFault::Unknown(2, 1)
+        )?
+    );
+    assert!(rt;
+        zone_bound_row(
+            alloc,
             "zoneid1,zoneid2,cost\n1,2,-1\n",
-            RowFault::BadNumber(2, 2, NumFault::Negative),
-        ),
-    ];
-    for (text, fault) in table {
-        let files = [UNITS, ("k", text)];
-        let found = fault_of(rt.alloc(), "ZONEBOUNDCOSTNAME k", &files)?;
-        assert!(rt;
-            found == Some(InputFault::Row(Which::ZoneBounds, fault)),
-            "{text}"
-        );
-    }
+            RowFault::BadNumber(2, 2, NumFault::Negative)
+        )?
+    );
     Ok(())
 }
 
-/// The name of the first feature of a project with this feature file.
-fn first_name(alloc: Global, features: &[u8]) -> Result<Option<Vec<u8>>, Fail> {
-    let mut shelf = MemShelf::new(alloc, Vec::new(alloc), 0)?;
-    put_files(alloc, &mut shelf, TARGETS, &[UNITS, AMOUNTS])?;
+/// Whether the first feature of a project with this feature file has this name.
+fn has_name(alloc: Global, features: &[u8], name: &[u8]) -> Result<bool, Fail> {
+    let mut shelf = shelf_of(alloc, TARGETS, &[UNITS, AMOUNTS])?;
     shelf.put(alloc, "feat.dat", features)?;
-    match read(alloc, &mut shelf) {
-        Ok(problem) => {
-            if problem.features() == 0 {
-                return Ok(None);
-            }
-            Ok(Some(Vec::from_slice(alloc, problem.name(0))?))
-        }
-        Err(_) => Ok(None),
+    is_named(alloc, &mut shelf, name)
+}
+
+fn is_named(alloc: Global, shelf: &mut MemShelf, name: &[u8]) -> Result<bool, Fail> {
+    match read(alloc, shelf) {
+        Ok(problem) => Ok(problem.features() > 0 && problem.name(0) == name),
+        Err(_) => Ok(false),
     }
 }
 
 #[test]
 fn a_feature_may_have_any_bytes_for_a_name(rt: HostRuntime) -> Result<(), Fail> {
-    let Some(name) = first_name(rt.alloc(), b"id,name\n1,\xffa\n")? else {
-        panic!(rt; "refused");
-    };
-    assert!(rt; name.as_slice() == b"\xffa".as_slice());
+    assert!(rt; has_name(rt.alloc(), b"id,name\n1,\xffa\n", b"\xffa")?);
     Ok(())
 }

@@ -1,5 +1,5 @@
 use Rattle.std.proofs.Common.{◌≡◌, rules, sym, subst}
-use Rattle.mz_project.specs.Fits.{AreZoneSets}
+use Rattle.mz_project.specs.Sets.{AreZoneSets}
 use Rattle.mz_project.specs.Sets.{every_zone}
 use Rattle.mz_project.proofs.SetLemmas.{every-fit}
 use Rattle.mz_project.proofs.sets.every_set.Goals as goal

@@ -1,6 +1,6 @@
 use Rattle.std.proofs.Common.{◌≡◌, refl, ap, arith}
-use Rattle.mz_project.specs.Limits.{greatest_gain}
-use Rattle.mz_project.specs.Parts.{overall_row}
+use Rattle.mz_project.specs.Gains.{greatest_gain}
+use Rattle.mz_project.specs.TargetRows.{overall_row}
 use Rattle.mz_project.proofs.AmountLemmas.{in-holders}
 use Rattle.mz_project.proofs.GainLemmas.{amounts-small, gain-above, gain-is, gains-more, gains-within, holders-few, part-small}
 use Rattle.mz_project.proofs.limits.gains.limited_gains.Goals as goal

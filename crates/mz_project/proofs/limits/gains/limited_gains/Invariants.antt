@@ -1,6 +1,6 @@
 use Rattle.std.proofs.Common.{ℕ, ◌≤◌, ◌<◌, ◌^◌}
-use Rattle.mz_project.specs.Limits.{greatest_gain}
-use Rattle.mz_project.specs.Parts.{overall_row}
+use Rattle.mz_project.specs.Gains.{greatest_gain}
+use Rattle.mz_project.specs.TargetRows.{overall_row}
 use Rattle.mz_project.proofs.limits.gains.limited_gains.Given as goal
 
 abbrev pub invariant-loop-feature : goal.invariant-loop-feature

@@ -1,5 +1,5 @@
 use Rattle.std.proofs.Common.{◌≡◌, ◌++◌, map, take}
-use Rattle.mz_project.specs.Parts.{zone_level}
+use Rattle.mz_project.specs.Levels.{zone_level}
 use Rattle.mz_project.proofs.limits.levels.push_zone_levels.Given as goal
 
 abbrev pub invariant-loop-target : goal.invariant-loop-target

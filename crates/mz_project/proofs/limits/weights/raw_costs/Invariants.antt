@@ -1,6 +1,6 @@
 use Rattle.std.proofs.Common.{◌≡◌}
 use Rattle.mz_num.specs.Places.{list_below}
-use Rattle.mz_project.specs.Parts.{raw_cost_of}
+use Rattle.mz_project.specs.Costs.{raw_cost_of}
 use Rattle.mz_project.proofs.limits.weights.raw_costs.Given as goal
 
 abbrev pub invariant-loop-unit : goal.invariant-loop-unit

@@ -1,4 +1,4 @@
-use Rattle.mz_project.specs.Parts.{target_rows_of}
+use Rattle.mz_project.specs.TargetRows.{target_rows_of}
 use Rattle.mz_project.proofs.WeightLemmas.{AreLight}
 use Rattle.mz_project.proofs.limits.weights.weighed_rows.Given as goal
 
