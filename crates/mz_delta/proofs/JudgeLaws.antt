@@ -20,7 +20,7 @@ use Rattle.mz_model.proofs.ScoreLaws.{boundary_of_plan-is}
 use Rattle.mz_delta.specs.declared.judged.Judged.{Judged}
 use Rattle.mz_delta.specs.declared.reading.Reading.{Reading}
 use Rattle.mz_delta.specs.Judged.{IsDifference}
-use Rattle.mz_delta.specs.Move.{boundary_around, boundary_growth, cost_growth, moved_total, moved_totals, neighbour_term, penalty_around, penalty_growth, penalty_moved, penalty_read, touched_penalty}
+use Rattle.mz_delta.specs.Move.{boundary_around, boundary_growth, cost_growth, moved_total, moved_totals, neighbour_term, penalty_around, penalty_growth, penalty_moved, penalty_read}
 use Rattle.mz_model.specs.Move.{moved_plan}
 use Rattle.mz_delta.specs.Reading.{Agrees, IsWellFormed, neighbour_at}
 use Rattle.mz_delta.proofs.DifferenceLaws.{crosswise, sum_of_differences}

@@ -1,4 +1,4 @@
-use Rattle.std.proofs.Common.{◌≡◌, ◌∙◌, ap, arith}
+use Rattle.std.proofs.Common.{◌∙◌, ap, arith}
 use Rattle.mz_model.specs.Boundary.{edge_term_of}
 use Rattle.mz_model.specs.Parts.{outer_at}
 use Rattle.mz_num.proofs.PlaceLaws.{sum_below-more}

@@ -1,9 +1,7 @@
-use Rattle.std.proofs.Common.{◌≡◌, ◌+◌, ◌∙◌, ap, get_or, arith, rules}
+use Rattle.std.proofs.Common.{◌∙◌, arith, rules}
 use Rattle.std.proofs.lemmas.Int.{to_z-of_z}
 use mir.Syntax.{w128}
 use mir.Val.{SFits}
-use Rattle.mz_model.specs.Boundary.{edge_term_of, no_neighbour}
-use Rattle.mz_model.specs.Parts.{outer_at}
 use Rattle.mz_num.proofs.PlaceLaws.{sum_below-more}
 use Rattle.mz_model.proofs.ZoneLaws.{is_allowed-in_range}
 use Rattle.mz_delta.specs.Move.{neighbour_term}

@@ -1,10 +1,4 @@
-use Rattle.std.proofs.Common.{◌∙◌, arith, rules}
-use mir.Syntax.{w128}
-use Rattle.std.proofs.lemmas.Int.{to_z-of_z}
-use mir.Val.{SFits}
-use Rattle.mz_model.specs.Parts.{cost_at}
 use Rattle.mz_model.proofs.ZoneLaws.{is_allowed-in_range}
-use Rattle.mz_delta.proofs.DifferenceLaws.{same_difference}
 use Rattle.mz_delta.proofs.judged.judge_move.Goals as goal
 
 pub cost_of-requires-clause-zone : goal.cost_of-requires-clause-zone

@@ -1,4 +1,4 @@
-use Rattle.std.proofs.Common.{◌<◌, ℕ, length, subst, arith, List}
+use Rattle.std.proofs.Common.{◌<◌, length, subst, arith, List}
 use Rattle.std.specs.Prelude.{slice_index}
 use Rattle.mz_model.specs.declared.neighbour.Neighbour.{Neighbour}
 use Rattle.mz_model.specs.Boundary.{neighbours_of}

@@ -1,4 +1,4 @@
-use Rattle.std.proofs.Common.{◌≡◌, ◌≤◌, ℕ, map, take}
+use Rattle.std.proofs.Common.{◌≡◌, ◌≤◌, map, take}
 use Rattle.std.specs.Prelude.{slice_index}
 use Rattle.mz_model.specs.declared.touch.Touch.{Touch}
 use Rattle.mz_model.specs.Targets.{touches_of}

@@ -1,4 +1,4 @@
-use Rattle.std.proofs.Common.{◌≡◌, ◌∙◌, ap, get_or, length, arith}
+use Rattle.std.proofs.Common.{◌∙◌, ap, get_or, length, arith}
 use Rattle.mz_num.proofs.PlaceLaws.{length-list_below, sum_below-more}
 use Rattle.mz_model.specs.Targets.{no_touch}
 use Rattle.mz_model.proofs.ZoneLaws.{is_allowed-in_range}

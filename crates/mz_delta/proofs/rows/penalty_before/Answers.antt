@@ -1,4 +1,4 @@
-use Rattle.std.proofs.Common.{◌≡◌, ◌∙◌, arith}
+use Rattle.std.proofs.Common.{◌∙◌, arith}
 use Rattle.mz_num.proofs.PlaceLaws.{sum_below-more}
 use Rattle.mz_delta.specs.Move.{touched_penalty}
 use Rattle.mz_delta.proofs.AroundLaws.{penalty_read-is, touched_penalty-is, touches-all}
