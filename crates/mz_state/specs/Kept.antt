@@ -1,6 +1,5 @@
 -- What contracts see of a kept state, and what its type keeps.
-use Rattle.std.specs.Prelude.{◌≡◌, ◌<◌, ◌≤◌, ℕ, List, length}
-use Rattle.std.specs.List.{All}
+use Rattle.std.specs.Prelude.{◌≡◌, ◌≤◌, ℕ, List}
 use Rattle.mz_num.specs.Limits.{most_proposals, most_runs, most_workers}
 use Rattle.mz_num.specs.Places.{list_below}
 use Rattle.mz_model.specs.declared.score.Score.{Score}

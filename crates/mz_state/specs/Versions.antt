@@ -5,7 +5,7 @@ use Rattle.mz_model.specs.declared.neighbour.Neighbour.{Neighbour}
 use Rattle.mz_model.specs.declared.parts.Parts.{Parts}
 use Rattle.mz_model.specs.declared.touch.Touch.{Touch}
 use Rattle.mz_model.specs.Boundary.{neighbours_of}
-use Rattle.mz_model.specs.Items.{Item, items_of}
+use Rattle.mz_model.specs.Items.{Item}
 use Rattle.mz_model.specs.Parts.{target_count}
 use Rattle.mz_model.specs.Targets.{gain_of, touches_of}
 use Rattle.mz_history.specs.declared.entry.Entry.{Entry}

@@ -117,7 +117,13 @@ impl Kept {
         ensures looks { IsLook self.now seat unit reading.new }
         ensures fits { FitsReading problem.now reading.new }
     {
-        read_plan(problem, &self.standing.plan, self.standing.totals.as_slice(), unit, reading);
+        read_plan(
+            problem,
+            &self.standing.plan,
+            self.standing.totals.as_slice(),
+            unit,
+            reading,
+        );
         reading.seat = seat;
         reading.front = self.length();
     }
@@ -132,7 +138,10 @@ impl Kept {
         if self.standing.last <= reading.front {
             return None;
         }
-        position_past(reading.front, self.standing.version_around(problem, reading.unit))
+        position_past(
+            reading.front,
+            self.standing.version_around(problem, reading.unit),
+        )
     }
 
     /// Decides the seat's next draw, as it was judged: the entry is appended, and where it is accepted its move
@@ -153,7 +162,8 @@ impl Kept {
         let accepted = rules
             .stairs
             .accepts(judged.change, rules.schedule.at(position), judged.word);
-        self.standing.decide(problem, judged, accepted, position + 1);
+        self.standing
+            .decide(problem, judged, accepted, position + 1);
         self.draws[judged.seat as usize] += 1;
         let entry = entry_of(judged, accepted);
         self.journal.push_reserved(entry);
@@ -165,7 +175,9 @@ impl Kept {
         ensures { IsClosed self result.journal.items result.plan result.totals.items result.score }
     {
         let Kept {
-            journal, standing, ..
+            journal,
+            standing,
+            ..
         } = self;
         Closed {
             journal,

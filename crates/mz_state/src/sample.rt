@@ -71,7 +71,14 @@ fn changes_of(
     let mut drawer = Drawer::new(seed, run, SEAT);
     let mut changes = Vec::with_capacity(alloc, SAMPLES)?;
     for _ in 0..SAMPLES {
-        let change = next_change(problem, plan, totals.as_slice(), &mut drawer, &mut reading, &mut judged);
+        let change = next_change(
+            problem,
+            plan,
+            totals.as_slice(),
+            &mut drawer,
+            &mut reading,
+            &mut judged,
+        );
         changes.push(change)?;
     }
     Ok(changes)

@@ -83,7 +83,14 @@ impl Standing {
     {
         if accepted {
             self.score = changed_score(problem, &self.plan, &self.score, judged);
-            move_rows(problem, &self.plan, judged, count, &mut self.totals, &mut self.rows);
+            move_rows(
+                problem,
+                &self.plan,
+                judged,
+                count,
+                &mut self.totals,
+                &mut self.rows,
+            );
             self.plan.put(problem, judged.unit, judged.new);
             self.units[judged.unit as usize] = count;
             self.last = count;
