@@ -5,7 +5,7 @@ use Rattle.mz_model.specs.declared.parts.Parts.{Parts}
 use Rattle.mz_model.specs.declared.parts.Target.{Target}
 use Rattle.mz_model.specs.declared.score.Score.{Score}
 use Rattle.mz_model.specs.Amounts.{holders_of, total_of}
-use Rattle.mz_model.specs.Boundary.{edge_term_of, greatest_rate, neighbours_of}
+use Rattle.mz_model.specs.Boundary.{as_neighbour, edge_term_of, greatest_rate, neighbours_of}
 use Rattle.mz_examples.specs.Examples.{lone_unit, no_units, three_units, three_zones, unheld_features}
 use Rattle.mz_model.specs.Scores.{boundary_of_plan, cost_of_plan, outer_term, pair_term, penalty_of_plan, penalty_term_of, score_of_plan}
 use Rattle.mz_model.specs.Targets.{amount_for, gain_from, gain_of, held_of, is_touched, shortfall_of, touched_rows}
@@ -71,7 +71,7 @@ unfolding three_units step_of allowed_zones
 round_again = refl
 
 -- the middle unit has both others as neighbours
-pub middle : neighbours_of three_units 1 ≡ (0, 50000) ∷ (2, 70000) ∷ []
+pub middle : neighbours_of three_units 1 ≡ as_neighbour 0 50000 ∷ as_neighbour 2 70000 ∷ []
 unfolding three_units neighbours_of
 middle = refl
 
