@@ -47,9 +47,21 @@ impl Model for Kept {
 
     ghost Value = { KeptState };
 
-    ghost view = { λ k. record { setting = setting_with k.problem.value k.rules.value k.seed k.run; limit = k.limit; seats = length k.draws.items; journal = k.journal.items } };
+    ghost view = { λ k. record {
+      setting = setting_with k.problem.value k.rules.value k.seed k.run;
+      limit = k.limit;
+      seats = length k.draws.items;
+      journal = k.journal.items;
+    } };
 
-    ghost invariant = { λ k. Keeps (record { setting = setting_with k.problem.value k.rules.value k.seed k.run; limit = k.limit; seats = length k.draws.items; journal = k.journal.items }) k.draws.items k.standing.plan k.standing.totals.items k.standing.score k.standing.units.items k.standing.rows.items k.standing.last (vec_capacity k.journal) };
+    ghost invariant = { λ k. Keeps (record {
+      setting = setting_with k.problem.value k.rules.value k.seed k.run;
+      limit = k.limit;
+      seats = length k.draws.items;
+      journal = k.journal.items;
+    })
+        k.draws.items k.standing.plan k.standing.totals.items k.standing.score
+        k.standing.units.items k.standing.rows.items k.standing.last (vec_capacity k.journal) };
 }
 
 impl Kept {
@@ -65,7 +77,12 @@ impl Kept {
         requires rules { IsRules rules.now }
         requires runs { run ≤ 1000 }
         requires workers { seats ≤ 60 }
-        ensures { IfOk result (λ kept. kept ≡ record { setting = setting_with problem.now rules.now seed run; limit = rules.now.limit; seats = seats; journal = [] }) }
+        ensures { IfOk result (λ kept. kept ≡ record {
+          setting = setting_with problem.now rules.now seed run;
+          limit = rules.now.limit;
+          seats = seats;
+          journal = [];
+        }) }
     {
         let plan = start(alloc, problem, rules.prop, seed, run)?;
         let standing = Standing::of(alloc, problem, plan)?;
@@ -190,7 +207,16 @@ impl Kept {
 
 /// The entry of a judged move.
 fn entry_of(judged: &Judged, accepted: bool) -> Entry
-    ensures { result ≡ record { seat = judged.now.seat; number = judged.now.number; unit = judged.now.unit; old = judged.now.old; new = judged.now.new; word = judged.now.word; change = judged.now.change; accepted = accepted } }
+    ensures { result ≡ record {
+      seat = judged.now.seat;
+      number = judged.now.number;
+      unit = judged.now.unit;
+      old = judged.now.old;
+      new = judged.now.new;
+      word = judged.now.word;
+      change = judged.now.change;
+      accepted = accepted;
+    } }
 {
     Entry {
         seat: judged.seat,
