@@ -42,7 +42,8 @@ pub(crate) fn next_draw(problem: &Problem, kept: &Kept, seed: u64, run: u32, sea
     requires seeds { (seed ≡ kept.now.setting.seed) × (run ≡ kept.now.setting.run) }
     requires seat { seat < kept.now.seats }
     requires some_free { 0 < length (free_units problem.now) }
-    ensures draw { result ≡ next_draw kept.now.setting.parts kept.now.setting.seed kept.now.setting.run kept.now.journal seat }
+    ensures draw { result ≡
+        next_draw kept.now.setting.parts kept.now.setting.seed kept.now.setting.run kept.now.journal seat }
     ensures in_range { result.unit < unit_count problem.now }
 {
     let mut drawer = Drawer::new(seed, run, seat);
@@ -67,7 +68,9 @@ pub(crate) fn decide(
     requires some_free { 0 < length (free_units problem.now) }
     requires reading { FitsReading problem.now rooms.old.reading }
     requires judged { FitsJudged problem.now rooms.old.judged }
-    ensures setting { (kept.new.setting ≡ kept.old.setting) × ((kept.new.limit ≡ kept.old.limit) × (kept.new.seats ≡ kept.old.seats)) }
+    ensures setting { kept.new.setting ≡ kept.old.setting }
+    ensures limit { kept.new.limit ≡ kept.old.limit }
+    ensures seats { kept.new.seats ≡ kept.old.seats }
     ensures reading { FitsReading problem.now rooms.new.reading }
     ensures judged { FitsJudged problem.now rooms.new.judged }
 {
