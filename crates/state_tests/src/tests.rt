@@ -1,3 +1,1 @@
 mod fits;
-mod runs;
-mod touches;
