@@ -1,16 +1,14 @@
 -- One decided move more: what a kept state keeps.
-use Rattle.std.proofs.Common.{◌≡◌, ℕ, ◌+◌, ◌<◌, ◌≤◌, ◌^◌, ◌==◌, Bool, true, false, cond, ℤ, pos, ◌-ℤ◌, List, [], ◌∷◌, ◌++◌, length, get_or, set, refl, sym, ap, subst, ◌∙◌, arith, inl, inr, length-append, length-set}
-use Rattle.std.specs.Prelude.{◌&&◌, IsTrue, not, slice_index, unsigned_abs, if◌then◌else◌}
-use Rattle.std.specs.List.{All}
-use Rattle.std.proofs.lemmas.Bool.{cases_Bool, cases_eq, cond-false, cond-true, eq-eqb, ne_eqb}
+use Rattle.std.proofs.Common.{◌≡◌, ℕ, ◌+◌, ◌<◌, ◌≤◌, ◌^◌, ◌==◌, Bool, true, false, cond, ℤ, pos, ◌-ℤ◌, List, [], ◌∷◌, ◌++◌, length, get_or, set, refl, sym, ap, subst, ◌∙◌, arith, length-append, length-set}
+use Rattle.std.specs.Prelude.{IsTrue, not, slice_index, unsigned_abs, if◌then◌else◌}
+use Rattle.std.proofs.lemmas.Bool.{eq-eqb, ne_eqb}
 use Rattle.std.proofs.lemmas.Int.{ints}
 use Rattle.std.proofs.lemmas.List.{length-map, map_push}
 use Rattle.std.proofs.lemmas.List.Elements.{All-push}
 use Rattle.mz_num.specs.Places.{list_below}
-use Rattle.mz_num.proofs.PlaceLaws.{get_or-list_below, length-list_below, list_below-same, list_below-set}
+use Rattle.mz_num.proofs.PlaceLaws.{get_or-list_below, list_below-same, list_below-set}
 use Rattle.mz_cool.specs.Acceptance.{is_accepted}
 use Rattle.mz_cool.specs.Schedule.{Cooling, temperature_at}
-use Rattle.mz_draw.specs.declared.draw.Draw.{Draw}
 use Rattle.mz_model.specs.declared.parts.Parts.{Parts}
 use Rattle.mz_model.specs.declared.score.Score.{Score}
 use Rattle.mz_model.specs.Items.{Item, row_item, unit_item}
@@ -25,20 +23,17 @@ use Rattle.mz_model.proofs.ScoreLaws.{score-le}
 use Rattle.mz_model.proofs.ZoneLaws.{step_of-allowed}
 use Rattle.mz_delta.specs.declared.judged.Judged.{Judged}
 use Rattle.mz_delta.specs.Judged.{IsDifference}
-use Rattle.mz_delta.specs.Reading.{totals_of_plan}
 use Rattle.mz_delta.proofs.MoveLaws.{moved-legal}
 use Rattle.mz_history.specs.declared.entry.Entry.{Entry}
 use Rattle.mz_history.specs.Core.{entry_of_seat, next_draw, seats_of}
 use Rattle.mz_history.specs.Entry.{drawn_zone, plan_after}
-use Rattle.mz_history.specs.Items.{changes}
 use Rattle.mz_history.specs.Moves.{IsMove}
-use Rattle.mz_history.specs.Replay.{plan_of_history, Setting, turns_of}
-use Rattle.mz_history.specs.World.{IsJournal, IsPlayed}
+use Rattle.mz_history.specs.Replay.{plan_of_history, turns_of}
 use Rattle.mz_history.proofs.HistoryLaws.{legal-push, plan-push, turns_of-le, turns_of-other, turns_of-own}
-use Rattle.mz_state.specs.Kept.{AgreesWithJournal, AreVersions, IsKept, Keeps, KeptState}
-use Rattle.mz_state.specs.NextMove.{IsMoveOf, IsNextMove}
+use Rattle.mz_state.specs.Kept.{AreVersions, Keeps, KeptState}
+use Rattle.mz_state.specs.NextMove.{IsNextMove}
 use Rattle.mz_state.specs.Standing.{IsMoveFrom, IsPosition}
-use Rattle.mz_state.specs.Versions.{last_accepted, raised_rows, version_of}
+use Rattle.mz_state.specs.Versions.{raised_rows, version_of}
 use Rattle.mz_state.proofs.VersionLaws.{last_accepted-push, version-push}
 
 -- ---- the move that is decided
@@ -133,9 +128,9 @@ versions-more : (parts : Parts) (k : KeptState) (judged : Judged) (accepted : Bo
 versions-more parts k judged true units rows units' rows' last last' own are within more_units more_rows more_last =
     let p = k.setting.parts in let h = k.journal in let after = h ++ entry_from judged true ∷ [] in record {
       units_are = more_units ∙ ap (λ us. set us judged.unit (length h + 1)) are.units_are
-      ∙ list_below-set (unit_count p) judged.unit (λ u. version_of p h (unit_item u)) (λ u. version_of p after (unit_item u)) (length h + 1) 0 within (unit-raised p h judged judged.unit refl) (λ u below other. unit-stays p h judged u other);
+          ∙ list_below-set (unit_count p) judged.unit (λ u. version_of p h (unit_item u)) (λ u. version_of p after (unit_item u)) (length h + 1) 0 within (unit-raised p h judged judged.unit refl) (λ u below other. unit-stays p h judged u other);
       rows_are = more_rows ∙ list_below-same (target_count p) (λ r. cond (gain_of p r judged.unit judged.old == gain_of p r judged.unit judged.new) (slice_index rows r) (length h + 1)) (λ r. version_of p after (row_item r)) 0
-      (λ r below. ap (λ v. cond (gain_of p r judged.unit judged.old == gain_of p r judged.unit judged.new) v (length h + 1)) (ap (λ vs. get_or vs r 0) are.rows_are ∙ get_or-list_below (target_count p) r (λ (n : ℕ). version_of p h (row_item n)) 0 below) ∙ row-raised p h judged r);
+          (λ r below. ap (λ v. cond (gain_of p r judged.unit judged.old == gain_of p r judged.unit judged.new) v (length h + 1)) (ap (λ vs. get_or vs r 0) are.rows_are ∙ get_or-list_below (target_count p) r (λ (n : ℕ). version_of p h (row_item n)) 0 below) ∙ row-raised p h judged r);
       last_is = more_last ∙ sym (last_accepted-push h (entry_from judged true));
     }
 versions-more parts k judged false units rows units' rows' last last' own are within more_units more_rows more_last =
@@ -203,9 +198,9 @@ grown k draws plan totals score units rows last room number d count judged accep
         totals_are = stands.position.totals_are;
         draws_are = draws-more k.seats judged.seat number d k.journal entry draws keeps.agrees.draws_are decided.seat refl at;
         versions = versions-more s.parts k judged accepted units rows units' rows' last last' refl keeps.agrees.versions decided.unit
-        (stands.units_are ∙ ap (λ (n : ℕ). if accepted then set units judged.unit n else units) decided.count_is)
-        (stands.rows_are ∙ ap (λ (n : ℕ). if accepted then raised_rows s.parts judged.unit judged.old judged.new n rows else rows) decided.count_is)
-        (stands.last_is ∙ ap (λ (n : ℕ). if accepted then n else last) decided.count_is);
+            (stands.units_are ∙ ap (λ (n : ℕ). if accepted then set units judged.unit n else units) decided.count_is)
+            (stands.rows_are ∙ ap (λ (n : ℕ). if accepted then raised_rows s.parts judged.unit judged.old judged.new n rows else rows) decided.count_is)
+            (stands.last_is ∙ ap (λ (n : ℕ). if accepted then n else last) decided.count_is);
       };
       room_is = keeps.room_is;
     }

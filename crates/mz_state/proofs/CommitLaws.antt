@@ -1,5 +1,5 @@
 -- What a commit rests on: a reading that nothing overtook is judged as the last plan would be.
-use Rattle.std.proofs.Common.{◌≡◌, ℕ, zero, suc, ◌+◌, ◌-◌, ◌<◌, ◌≤◌, Bool, true, false, List, [], ◌∷◌, ◌++◌, length, get_or, set, take, drop, map, None, refl, sym, ap, subst, ◌∙◌, arith, inl, inr, get_or-set_other}
+use Rattle.std.proofs.Common.{◌≡◌, ℕ, zero, suc, ◌+◌, ◌-◌, ◌<◌, ◌≤◌, Bool, true, false, List, [], ◌∷◌, ◌++◌, length, get_or, take, drop, map, None, refl, sym, ap, subst, ◌∙◌, arith, inl, inr, get_or-set_other}
 use Rattle.std.specs.Prelude.{◌&&◌, ◌||◌, ◌==◌, not, slice_index, slice_index_or}
 use Rattle.std.specs.List.{All, list_any}
 use Rattle.std.proofs.Math.Seq.{set_out, take-length}
@@ -14,7 +14,7 @@ use Rattle.mz_model.specs.Items.{Item, items_of, row_item, unit_item}
 use Rattle.mz_model.specs.Move.{moved_plan}
 use Rattle.mz_model.specs.Parts.{unit_count}
 use Rattle.mz_model.specs.Plans.{IsLegalPlan}
-use Rattle.mz_model.specs.Targets.{gain_of, held_of}
+use Rattle.mz_model.specs.Targets.{gain_of}
 use Rattle.mz_model.specs.Valid.{IsValid}
 use Rattle.mz_model.specs.Zones.{step_of}
 use Rattle.mz_delta.specs.declared.judged.Judged.{Judged}
@@ -23,23 +23,24 @@ use Rattle.mz_delta.specs.Judged.{IsDifference, IsRight}
 use Rattle.mz_delta.specs.Reading.{Agrees, IsWellFormed}
 use Rattle.mz_delta.proofs.MoveLaws.{held-moved}
 use Rattle.mz_history.specs.declared.entry.Entry.{Entry}
-use Rattle.mz_history.specs.Core.{entry_of_seat}
-use Rattle.mz_history.specs.Entry.{drawn_zone, plan_after}
+use Rattle.mz_history.specs.Core.{next_draw}
+use Rattle.mz_history.specs.Entry.{drawn_zone}
 use Rattle.mz_history.specs.Items.{changes, changes_around, value_in_plan, value_of_item}
 use Rattle.mz_history.specs.Replay.{IsLegalHistory, plan_of_history, Setting}
 use Rattle.mz_history.specs.Verdict.{no_entry, overtaking_entry}
 use Rattle.mz_history.proofs.HistoryLaws.{plan-push}
-use Rattle.mz_history.proofs.LegalHistoryLaws.{after-accepted, after-refused, IsLegalStep, last_plan-legal, legal-at, legal-take}
-use Rattle.mz_state.specs.Looks.{IsRightFor}
-use Rattle.mz_state.specs.NextMove.{IsMoveOf}
-use Rattle.mz_state.specs.Versions.{position_past, reach_of}
-use Rattle.mz_state.proofs.ReachLaws.{last-past, past-true, reach-past}
+use Rattle.mz_history.proofs.LegalHistoryLaws.{after-accepted, after-refused, IsLegalStep, last_plan-legal, legal-at}
+use Rattle.mz_state.specs.Kept.{KeptState}
+use Rattle.mz_state.specs.Looks.{IsLook, IsRightFor}
+use Rattle.mz_state.specs.NextMove.{IsMoveOf, IsNextMove}
+use Rattle.mz_state.specs.Versions.{reach_of}
+use Rattle.mz_state.proofs.ReachLaws.{last-past, past-false, past-true, reach-le, reach-past}
 use Rattle.mz_state.proofs.ReadingLaws.{agreeing-values, right-agrees, values-agree}
 
 -- ---- an item that an entry doesn't change
 
 same-gain : (a b : ℕ) → not (a == b) ≡ false → a ≡ b
-same-gain a b same = elim (cases_eq a b) [ | inl e ↦ e | inr other ↦ absurd (false≢true (sym same ∙ ap not (ne_eqb a b other))) ]
+same-gain a b same = elim (cases_eq a b) [ inl e ↦ e | inr other ↦ absurd (false≢true (sym same ∙ ap not (ne_eqb a b other))) ]
 
 moved-keeps : (parts : Parts) (plan : List ℕ) (entry : Entry) (item : Item) → IsLegalPlan parts plan → entry.unit < unit_count parts → entry.old ≡ slice_index plan entry.unit → entry.accepted ≡ true → changes parts entry item ≡ false
     → value_in_plan parts (moved_plan plan entry.unit entry.new) item ≡ value_in_plan parts plan item
@@ -117,11 +118,11 @@ untouched-agrees s history n reading valid legal few formed right none =
     let then_agrees : Agrees s.parts (plan_of_history s early) reading =
     right-agrees s early reading formed right (λ i d h. list_any_none (λ entry. changes s.parts entry (get_or items i d)) (drop reading.front early)
     (λ k e g. let left = length-drop reading.front early in
-      let here : reading.front + k < length early = omega (arith, left, g) in
-      let inside : reading.front + k < length history = omega (arith, count) in
-      subst (λ (entry : Entry). changes s.parts entry (get_or items i d) ≡ false)
-      (sym (get_or-drop reading.front early k e ∙ get_or-take n history (reading.front + k) e (omega (arith, count)) ∙ get_or_default history (reading.front + k) e no_entry inside))
-      (still (reading.front + k) (omega arith) inside i d h))) in
+    let here : reading.front + k < length early = omega (arith, left, g) in
+    let inside : reading.front + k < length history = omega (arith, count) in
+    subst (λ (entry : Entry). changes s.parts entry (get_or items i d) ≡ false)
+    (sym (get_or-drop reading.front early k e ∙ get_or-take n history (reading.front + k) e (omega (arith, count)) ∙ get_or_default history (reading.front + k) e no_entry inside))
+    (still (reading.front + k) (omega arith) inside i d h))) in
     let values : map (value_of_item s history) items ≡ map (value_of_item s early) items = map-same (value_of_item s history) (value_of_item s early) items
     (λ i d h. ap (λ (es : List Entry). value_of_item s es (get_or items i d)) (sym (ap (λ k. take k history) whole ∙ take-length history))
     ∙ later-keeps s history (get_or items i d) n m valid legal (omega (arith, whole)) (λ p from within. still p (omega (arith, count)) within i d h)) in
@@ -152,3 +153,12 @@ pub commit-moves : (s : Setting) (history : List Entry) (n : ℕ) (reading : Rea
 commit-moves s history n reading draw judged valid legal few right none judges =
     agreeing-moves s.parts (plan_of_history s history) reading draw judged (last_plan-legal s history valid legal)
     (untouched-agrees s history n reading valid legal few judges.well_formed right none) judges
+
+-- what was judged by a look for the seat's next draw can be applied
+pub look-moves : (k : KeptState) (parts : Parts) (unit : ℕ) (reading : Reading) (draw : Draw) (judged : Judged) → parts ≡ k.setting.parts → IsValid k.setting.parts → IsLegalHistory k.setting k.journal → IsLook k judged.seat unit reading
+    → draw ≡ next_draw k.setting.parts k.setting.seed k.setting.run k.journal judged.seat → IsRight parts reading draw judged → IsNextMove k judged
+look-moves k parts unit reading draw judged own valid legal looks drawn judges =
+    let plan = plan_of_history k.setting k.journal in
+    let right : IsRight k.setting.parts reading draw judged = subst (λ (p : Parts). IsRight p reading draw judged) own judges in
+    subst (λ (d : Draw). IsMoveOf k.setting.parts plan d judged) drawn
+    (agreeing-moves k.setting.parts plan reading draw judged (last_plan-legal k.setting k.journal valid legal) looks.agrees right)

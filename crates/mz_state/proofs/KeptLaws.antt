@@ -1,7 +1,5 @@
 -- What a kept state keeps: at the opening, and what is read of it.
-use Rattle.std.proofs.Common.{◌≡◌, ℕ, ◌+◌, ◌<◌, ◌≤◌, ◌^◌, List, [], ◌∷◌, ◌++◌, length, get_or, replicate, Option, None, refl, sym, ap, subst, ◌∙◌, arith}
-use Rattle.std.specs.Prelude.{slice_index}
-use Rattle.std.specs.List.{All}
+use Rattle.std.proofs.Common.{◌≡◌, ℕ, ◌<◌, ◌≤◌, ◌^◌, List, [], length, get_or, replicate, Option, None, refl, sym, ap, subst, ◌∙◌, arith}
 use Rattle.std.proofs.lemmas.List.{length-replicate}
 use Rattle.std.proofs.lemmas.List.Elements.{All-nil}
 use Rattle.mz_num.specs.Places.{list_below}
@@ -10,22 +8,19 @@ use Rattle.mz_model.specs.declared.parts.Parts.{Parts}
 use Rattle.mz_model.specs.declared.score.Score.{Score}
 use Rattle.mz_model.specs.Items.{row_item, unit_item}
 use Rattle.mz_model.specs.Parts.{target_count, unit_count}
-use Rattle.mz_model.specs.Plans.{IsLegalPlan}
-use Rattle.mz_model.specs.Scores.{score_of_plan}
 use Rattle.mz_model.specs.Valid.{IsValid}
 use Rattle.mz_model.proofs.ScoreLaws.{score-le}
 use Rattle.mz_delta.specs.declared.reading.Reading.{Reading}
-use Rattle.mz_delta.specs.Reading.{Agrees, IsReadingOf, totals_of_plan}
+use Rattle.mz_delta.specs.Reading.{Agrees, IsReadingOf}
 use Rattle.mz_history.specs.declared.entry.Entry.{Entry}
 use Rattle.mz_history.specs.declared.rules.Rules.{Rules}
 use Rattle.mz_history.specs.Core.{seats_of}
 use Rattle.mz_history.specs.Moves.{IsMove}
-use Rattle.mz_history.specs.Replay.{plan_of_history, Setting, turns_of}
+use Rattle.mz_history.specs.Replay.{plan_of_history, turns_of}
 use Rattle.mz_history.specs.Rules.{IsRules, setting_with}
 use Rattle.mz_history.specs.Start.{starting_plan}
-use Rattle.mz_history.specs.World.{IsJournal, IsPlayed}
 use Rattle.mz_history.proofs.LegalHistoryLaws.{legal-none}
-use Rattle.mz_state.specs.Kept.{AgreesWithJournal, AreVersions, IsKept, Keeps, KeptState}
+use Rattle.mz_state.specs.Kept.{AreVersions, Keeps, KeptState}
 use Rattle.mz_state.specs.Looks.{IsLook}
 use Rattle.mz_state.specs.Standing.{IsPosition}
 use Rattle.mz_state.specs.Versions.{position_past, version_around, version_of}

@@ -1,6 +1,6 @@
 -- Target rows of a moved unit: what is held for them, and their versions.
 use Rattle.std.proofs.Common.{◌≡◌, ℕ, ◌+◌, ◌<◌, ◌≤◌, ◌==◌, Bool, true, false, cond, List, [], ◌∷◌, ◌++◌, length, get_or, set, take, map, refl, sym, ap, subst, ◌∙◌, arith, inl, inr, ◌⊎◌}
-use Rattle.std.specs.Prelude.{◌||◌, IsTrue, slice_index}
+use Rattle.std.specs.Prelude.{◌||◌, slice_index}
 use Rattle.std.specs.List.{Contains, list_any}
 use Rattle.std.proofs.Math.ListN.{get_or-map}
 use Rattle.std.proofs.lemmas.Bool.{cases_Bool, cases_eq, cond-false, cond-true, eq-eqb, false≢true, ne_eqb}
@@ -10,7 +10,7 @@ use Rattle.mz_num.specs.Places.{list_below}
 use Rattle.mz_num.proofs.PlaceLaws.{get_or-list_below, length-list_below, list_below-from, list_below-same, list_below-set, places_below-has}
 use Rattle.mz_model.specs.declared.parts.Parts.{Parts}
 use Rattle.mz_model.specs.Move.{moved_plan}
-use Rattle.mz_model.specs.Parts.{target_count, unit_count, zone_count}
+use Rattle.mz_model.specs.Parts.{target_count, zone_count}
 use Rattle.mz_model.specs.declared.touch.Touch.{Touch}
 use Rattle.mz_model.specs.Targets.{gain_of, held_of, is_touched, touched_rows, touches_of}
 use Rattle.mz_model.specs.Valid.{IsValid}
@@ -66,7 +66,7 @@ merged-skip n f g done xs row are why =
     are ∙ list_below-same n (λ r. cond (list_any (λ k. k == r) done) (g r) (f r)) (λ r. cond (list_any (λ k. k == r) (done ++ row ∷ [])) (g r) (f r)) 0
     (λ k below. elim (cases_eq k row) [
       | inl e ↦ subst (λ r. cond (list_any (λ k. k == r) done) (g r) (f r) ≡ cond (list_any (λ k. k == r) (done ++ row ∷ [])) (g r) (f r)) (sym e)
-        (own_row done row (f row) (g row) why ∙ sym (cond-true (list_any (λ k. k == row) (done ++ row ∷ [])) (g row) (f row) (any-own done row)))
+          (own_row done row (f row) (g row) why ∙ sym (cond-true (list_any (λ k. k == row) (done ++ row ∷ [])) (g row) (f row) (any-own done row)))
       | inr other ↦ ap (λ b. cond b (g k) (f k)) (any-other done row k other)
     ])
 
@@ -126,13 +126,13 @@ rows-skip parts plan judged count old done totals versions row moved moves so_fa
         versions_are = merged-skip n (slice_index old) (raised parts judged count old) done versions row so_far.versions_are (inl there);
       }
       | inr fresh ↦
-        let held : f row ≡ g row = sym (here ∙ cond-false (list_any (λ k. k == row) done) (g row) (f row) fresh) ∙ same ∙ is in
-        let gains = held-gains parts plan judged row moves in
-        let equal : (gain_of parts row judged.unit judged.old == gain_of parts row judged.unit judged.new) ≡ true =
-        eq-eqb (gain_of parts row judged.unit judged.old) (gain_of parts row judged.unit judged.new) (omega (arith, gains, held)) in record {
-          totals_are = merged-skip n f g done totals row so_far.totals_are (inr held);
-          versions_are = merged-skip n (slice_index old) (raised parts judged count old) done versions row so_far.versions_are (inr (sym (cond-true (gain_of parts row judged.unit judged.old == gain_of parts row judged.unit judged.new) (slice_index old row) count equal)));
-        }
+          let held : f row ≡ g row = sym (here ∙ cond-false (list_any (λ k. k == row) done) (g row) (f row) fresh) ∙ same ∙ is in
+          let gains = held-gains parts plan judged row moves in
+          let equal : (gain_of parts row judged.unit judged.old == gain_of parts row judged.unit judged.new) ≡ true =
+          eq-eqb (gain_of parts row judged.unit judged.old) (gain_of parts row judged.unit judged.new) (omega (arith, gains, held)) in record {
+            totals_are = merged-skip n f g done totals row so_far.totals_are (inr held);
+            versions_are = merged-skip n (slice_index old) (raised parts judged count old) done versions row so_far.versions_are (inr (sym (cond-true (gain_of parts row judged.unit judged.old == gain_of parts row judged.unit judged.new) (slice_index old row) count equal)));
+          }
     ]
 
 any-has : (xs : List ℕ) (row : ℕ) → Contains xs row → list_any (λ k. k == row) xs ≡ true
@@ -162,9 +162,9 @@ rows-all parts plan judged count old totals versions valid moves done =
       versions_are = done.versions_are ∙ list_below-same n (λ r. cond (list_any (λ k. k == r) rows) (raised parts judged count old r) (slice_index old r)) (raised parts judged count old) 0 (λ r within. elim (cases_Bool (list_any (λ k. k == r) rows)) [
         | inl there ↦ cond-true (list_any (λ k. k == r) rows) (raised parts judged count old r) (slice_index old r) there
         | inr none ↦ let still = untouched parts judged.unit r within none in
-          let equal : gain_of parts r judged.unit judged.old ≡ gain_of parts r judged.unit judged.new = gain_of-not_touched parts judged.unit r judged.old old_zone still ∙ sym (gain_of-not_touched parts judged.unit r judged.new zone still) in
-          cond-false (list_any (λ k. k == r) rows) (raised parts judged count old r) (slice_index old r) none
-          ∙ sym (cond-true (gain_of parts r judged.unit judged.old == gain_of parts r judged.unit judged.new) (slice_index old r) count (eq-eqb _ _ equal))
+            let equal : gain_of parts r judged.unit judged.old ≡ gain_of parts r judged.unit judged.new = gain_of-not_touched parts judged.unit r judged.old old_zone still ∙ sym (gain_of-not_touched parts judged.unit r judged.new zone still) in
+            cond-false (list_any (λ k. k == r) rows) (raised parts judged count old r) (slice_index old r) none
+            ∙ sym (cond-true (gain_of parts r judged.unit judged.old == gain_of parts r judged.unit judged.new) (slice_index old r) count (eq-eqb _ _ equal))
       ]);
     }
 

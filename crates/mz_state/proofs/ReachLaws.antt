@@ -1,8 +1,8 @@
 -- How far the last place that passes a test reaches.
-use Rattle.std.proofs.Common.{◌≡◌, ℕ, zero, suc, ◌+◌, ◌-◌, ◌<◌, ◌≤◌, ◌==◌, Bool, true, false, cond, List, [], ◌∷◌, ◌++◌, length, map, get_or, take, Option, Some, None, refl, sym, ap, subst, ◌∙◌, arith, inl, inr, length-append}
-use Rattle.std.specs.Prelude.{◌||◌, ◌&&◌, max, nat_le, nat_lt, slice_index, if◌then◌else◌}
+use Rattle.std.proofs.Common.{◌≡◌, ℕ, zero, suc, ◌+◌, ◌-◌, ◌<◌, ◌≤◌, Bool, true, false, List, [], ◌∷◌, ◌++◌, length, map, get_or, take, Some, None, refl, sym, ap, subst, ◌∙◌, arith, inl, inr}
+use Rattle.std.specs.Prelude.{◌||◌, ◌&&◌, max, nat_le, if◌then◌else◌}
 use Rattle.std.specs.List.{last_or, list_any}
-use Rattle.std.proofs.lemmas.Bool.{cases_Bool, cases_eq, false≢true, leb-true, lt-ltb, le-ltb, le-leb, lt-leb}
+use Rattle.std.proofs.lemmas.Bool.{cases_Bool, cases_eq, lt-ltb, le-ltb}
 use Rattle.std.proofs.Math.Seq.{take-length}
 use Rattle.std.proofs.lemmas.List.{take_more}
 use Rattle.std.proofs.lemmas.Bool.Decides.{leb_tells}
@@ -49,8 +49,8 @@ reach-past test zero k past below = absurd (omega arith)
 reach-past test (suc n) k past below = elim (cases_Bool (test n)) [
   | inl passes ↦ let all : reach_of test (suc n) ≡ suc n = rw passes refl in absurd (omega (arith, all))
   | inr fails ↦
-    let same : reach_of test (suc n) ≡ reach_of test n = rw fails refl in
-    elim (cases_eq k n) [ | inl e ↦ ap test e ∙ fails | inr other ↦ reach-past test n k (omega (arith, same)) (omega arith) ]
+      let same : reach_of test (suc n) ≡ reach_of test n = rw fails refl in
+      elim (cases_eq k n) [ inl e ↦ ap test e ∙ fails | inr other ↦ reach-past test n k (omega (arith, same)) (omega arith) ]
 ]
 
 -- ---- greater and less
@@ -102,7 +102,7 @@ greatest_by-push f xs x = greatest_by-append f xs (x ∷ []) ∙ ap (max (greate
 
 -- ---- the last place past a front
 
-past-true : (front version : ℕ) → front < version → position_past front version ≡ Some (version - 1)
+pub past-true : (front version : ℕ) → front < version → position_past front version ≡ Some (version - 1)
 past-true front version reaches = rw (lt-ltb front version reaches) refl
 
 pub past-false : (front version : ℕ) → version ≤ front → position_past front version ≡ None
@@ -118,17 +118,17 @@ one_more front test n so_far = let both = λ (k : ℕ). nat_le front k && test k
     elim (cases_Bool (test n)) [
       | inl passes ↦ elim (leb_tells front n) [
         | inl behind ↦
-          let here : (nat_le front n && test n) ≡ true = ap (λ b. b && test n) behind.0 ∙ passes in
-          let last : n + 1 - 1 ≡ n = omega arith in
-          ap (position_past front) (reach-passed test n passes) ∙ past-true front (n + 1) (omega (arith, behind.1)) ∙ ap Some last ∙ last-more n both here
+            let here : (nat_le front n && test n) ≡ true = ap (λ b. b && test n) behind.0 ∙ passes in
+            let last : n + 1 - 1 ≡ n = omega arith in
+            ap (position_past front) (reach-passed test n passes) ∙ past-true front (n + 1) (omega (arith, behind.1)) ∙ ap Some last ∙ last-more n both here
         | inr before ↦
-          let none : (nat_le front n && test n) ≡ false = ap (λ b. b && test n) before.0 in
-          ap (position_past front) (reach-passed test n passes) ∙ past-false front (n + 1) (omega (arith, before.1))
-          ∙ sym (past-false front (reach_of test n) (omega (arith, reach-le test n, before.1))) ∙ last-same n both _ so_far none
+            let none : (nat_le front n && test n) ≡ false = ap (λ b. b && test n) before.0 in
+            ap (position_past front) (reach-passed test n passes) ∙ past-false front (n + 1) (omega (arith, before.1))
+            ∙ sym (past-false front (reach_of test n) (omega (arith, reach-le test n, before.1))) ∙ last-same n both _ so_far none
       ]
       | inr fails ↦
-        let none : (nat_le front n && test n) ≡ false = ap (λ b. nat_le front n && b) fails ∙ and-false (nat_le front n) in
-        ap (position_past front) (reach-failed test n fails) ∙ last-same n both _ so_far none
+          let none : (nat_le front n && test n) ≡ false = ap (λ b. nat_le front n && b) fails ∙ and-false (nat_le front n) in
+          ap (position_past front) (reach-failed test n fails) ∙ last-same n both _ so_far none
     ]
 
 pub last-past : (front : ℕ) (test : ℕ → Bool) (n : ℕ) → position_past front (reach_of test n) ≡ last_or None (places_below n (λ k. nat_le front k && test k))

@@ -1,5 +1,5 @@
 -- Readings: their values by item, and the plans that they agree with.
-use Rattle.std.proofs.Common.{◌≡◌, ℕ, zero, suc, ◌+◌, ◌<◌, ◌≤◌, false, List, [], ◌∷◌, ◌++◌, length, get_or, map, drop, take, refl, sym, ap, subst, ◌∙◌, arith, length-append}
+use Rattle.std.proofs.Common.{◌≡◌, ℕ, zero, suc, false, List, [], ◌∷◌, ◌++◌, length, get_or, map, drop, take, refl, sym, ap, subst, ◌∙◌, arith, length-append}
 use Rattle.std.specs.Prelude.{slice_index}
 use Rattle.std.specs.List.{All, list_any, zip}
 use Rattle.std.proofs.Math.Seq.{drop-append_seam, take-append_seam}
@@ -12,9 +12,9 @@ use Rattle.mz_model.specs.Targets.{held_of, touched_rows}
 use Rattle.mz_delta.specs.declared.reading.Reading.{Reading}
 use Rattle.mz_delta.specs.Reading.{Agrees, IsWellFormed, zones_around}
 use Rattle.mz_history.specs.declared.entry.Entry.{Entry}
-use Rattle.mz_history.specs.Items.{changes, IsCurrent, value_in_plan, value_of_item}
+use Rattle.mz_history.specs.Items.{changes, value_in_plan, value_of_item}
 use Rattle.mz_history.specs.Replay.{plan_of_history, Setting}
-use Rattle.mz_state.specs.Looks.{IsRightFor, read_values}
+use Rattle.mz_state.specs.Looks.{IsRightFor}
 
 -- ---- values by item
 
@@ -61,9 +61,9 @@ values-agree parts plan reading formed same =
     let count : length reading.neighbours.items ≡ length (zones_around parts plan reading.unit) = formed.degree ∙ sym (length-map (neighbours_of parts reading.unit) (λ (n : Neighbour). slice_index plan n.unit)) in record {
       unit = head-same reading.zone (slice_index plan reading.unit) _ _ whole;
       neighbours = sym (take-append_seam reading.neighbours.items reading.totals.items) ∙ ap (take (length reading.neighbours.items)) rest
-      ∙ ap (λ (n : ℕ). take n (zones_around parts plan reading.unit ++ map (held_of parts plan) (touched_rows parts reading.unit))) count ∙ take-append_seam (zones_around parts plan reading.unit) _;
+          ∙ ap (λ (n : ℕ). take n (zones_around parts plan reading.unit ++ map (held_of parts plan) (touched_rows parts reading.unit))) count ∙ take-append_seam (zones_around parts plan reading.unit) _;
       totals = sym (drop-append_seam reading.neighbours.items reading.totals.items) ∙ ap (drop (length reading.neighbours.items)) rest
-      ∙ ap (λ (n : ℕ). drop n (zones_around parts plan reading.unit ++ map (held_of parts plan) (touched_rows parts reading.unit))) count ∙ drop-append_seam (zones_around parts plan reading.unit) _;
+          ∙ ap (λ (n : ℕ). drop n (zones_around parts plan reading.unit ++ map (held_of parts plan) (touched_rows parts reading.unit))) count ∙ drop-append_seam (zones_around parts plan reading.unit) _;
     }
 
 -- ---- items beside their values
@@ -91,7 +91,7 @@ pub agrees-right : (s : Setting) (history : List Entry) (reading : Reading) → 
 agrees-right s history reading whole agrees = record {
   seen = omega arith;
   current = zip-all (λ (read : Item × ℕ). list_any (λ entry. changes s.parts entry read.0) (drop reading.front history) ≡ false → read.1 ≡ value_of_item s history read.0) (value_of_item s history) (items_of s.parts reading.unit) (values_of_reading reading)
-  (agreeing-values s.parts (plan_of_history s history) reading agrees) (λ k d h unchanged. refl);
+      (agreeing-values s.parts (plan_of_history s history) reading agrees) (λ k d h unchanged. refl);
 }
 
 values-count : (parts : Parts) (reading : Reading) → IsWellFormed parts reading → length (values_of_reading reading) ≡ length (items_of parts reading.unit)

@@ -1,6 +1,5 @@
 -- What contracts see of a kept state, and what its type keeps.
-use Rattle.std.specs.Prelude.{◌≡◌, ◌<◌, ◌≤◌, ℕ, List, length}
-use Rattle.std.specs.List.{All}
+use Rattle.std.specs.Prelude.{◌≡◌, ◌≤◌, ℕ, List}
 use Rattle.mz_num.specs.Limits.{most_proposals, most_runs, most_workers}
 use Rattle.mz_num.specs.Places.{list_below}
 use Rattle.mz_model.specs.declared.score.Score.{Score}
@@ -32,20 +31,26 @@ pub record IsKept (k : KeptState) : Type 0 where
 
 -- the versions are those of the units, of the target rows, and of all items
 pub record AreVersions (k : KeptState) (units rows : List ℕ) (last : ℕ) : Type 0 where
-  pub units_are : units ≡ list_below (unit_count k.setting.parts) (λ unit. version_of k.setting.parts k.journal (unit_item unit))
-  pub rows_are : rows ≡ list_below (target_count k.setting.parts) (λ row. version_of k.setting.parts k.journal (row_item row))
+  pub units_are : units ≡ list_below (unit_count k.setting.parts)
+      (λ unit. version_of k.setting.parts k.journal (unit_item unit))
+  pub rows_are : rows ≡ list_below (target_count k.setting.parts)
+      (λ row. version_of k.setting.parts k.journal (row_item row))
   pub last_is : last ≡ last_accepted k.journal
 
 -- all that is kept beside the journal is what the journal says: its plan with totals and score, each seat's next draw,
 -- and the versions
-pub record AgreesWithJournal (k : KeptState) (draws plan totals : List ℕ) (score : Score) (units rows : List ℕ) (last : ℕ) : Type 0 where
+pub record AgreesWithJournal
+    (k : KeptState) (draws plan totals : List ℕ) (score : Score) (units rows : List ℕ) (last : ℕ)
+    : Type 0 where
   pub played : IsPlayed k.setting k.journal plan score
   pub totals_are : totals ≡ totals_of_plan k.setting.parts plan
   pub draws_are : draws ≡ list_below k.seats (λ seat. turns_of seat (seats_of k.journal))
   pub versions : AreVersions k units rows last
 
 -- what the type keeps; the room is how many entries the journal can have without taking memory
-pub record Keeps (k : KeptState) (draws plan totals : List ℕ) (score : Score) (units rows : List ℕ) (last room : ℕ) : Type 0 where
+pub record Keeps
+    (k : KeptState) (draws plan totals : List ℕ) (score : Score) (units rows : List ℕ) (last room : ℕ)
+    : Type 0 where
   pub kept : IsKept k
   pub agrees : AgreesWithJournal k draws plan totals score units rows last
   pub room_is : k.limit ≤ room

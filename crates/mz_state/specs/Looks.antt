@@ -12,7 +12,8 @@ use Rattle.mz_state.specs.Kept.{KeptState}
 
 -- the items of a reading's unit, each with its read value
 abbrev pub read_values : Parts → Reading → List (Item × ℕ)
-read_values parts reading = zip (items_of parts reading.unit) (reading.zone ∷ (reading.neighbours.items ++ reading.totals.items))
+read_values parts reading =
+    zip (items_of parts reading.unit) (reading.zone ∷ (reading.neighbours.items ++ reading.totals.items))
 
 -- the reading is right for a history: each item that no accepted entry at its front or later changes has there the
 -- value that was read

@@ -21,4 +21,6 @@ pub record IsMoveOf (parts : Parts) (plan : List ℕ) (draw : Draw) (judged : Ju
 
 -- the move of its seat's next draw, on the plan of the journal
 abbrev pub IsNextMove : KeptState → Judged → Type 0
-IsNextMove k judged = IsMoveOf k.setting.parts (plan_of_history k.setting k.journal) (next_draw k.setting.parts k.setting.seed k.setting.run k.journal judged.seat) judged
+IsNextMove k judged =
+    IsMoveOf k.setting.parts (plan_of_history k.setting k.journal)
+    (next_draw k.setting.parts k.setting.seed k.setting.run k.journal judged.seat) judged

@@ -47,9 +47,21 @@ impl Model for Kept {
 
     ghost Value = { KeptState };
 
-    ghost view = { λ k. record { setting = setting_with k.problem.value k.rules.value k.seed k.run; limit = k.limit; seats = length k.draws.items; journal = k.journal.items } };
+    ghost view = { λ k. record {
+      setting = setting_with k.problem.value k.rules.value k.seed k.run;
+      limit = k.limit;
+      seats = length k.draws.items;
+      journal = k.journal.items;
+    } };
 
-    ghost invariant = { λ k. Keeps (record { setting = setting_with k.problem.value k.rules.value k.seed k.run; limit = k.limit; seats = length k.draws.items; journal = k.journal.items }) k.draws.items k.standing.plan k.standing.totals.items k.standing.score k.standing.units.items k.standing.rows.items k.standing.last (vec_capacity k.journal) };
+    ghost invariant = { λ k. Keeps (record {
+      setting = setting_with k.problem.value k.rules.value k.seed k.run;
+      limit = k.limit;
+      seats = length k.draws.items;
+      journal = k.journal.items;
+    })
+        k.draws.items k.standing.plan k.standing.totals.items k.standing.score
+        k.standing.units.items k.standing.rows.items k.standing.last (vec_capacity k.journal) };
 }
 
 impl Kept {
@@ -65,7 +77,12 @@ impl Kept {
         requires rules { IsRules rules.now }
         requires runs { run ≤ 1000 }
         requires workers { seats ≤ 60 }
-        ensures { IfOk result (λ kept. kept ≡ record { setting = setting_with problem.now rules.now seed run; limit = rules.now.limit; seats = seats; journal = [] }) }
+        ensures { IfOk result (λ kept. kept ≡ record {
+          setting = setting_with problem.now rules.now seed run;
+          limit = rules.now.limit;
+          seats = seats;
+          journal = [];
+        }) }
     {
         let plan = start(alloc, problem, rules.prop, seed, run)?;
         let standing = Standing::of(alloc, problem, plan)?;
@@ -117,7 +134,13 @@ impl Kept {
         ensures looks { IsLook self.now seat unit reading.new }
         ensures fits { FitsReading problem.now reading.new }
     {
-        read_plan(problem, &self.standing.plan, self.standing.totals.as_slice(), unit, reading);
+        read_plan(
+            problem,
+            &self.standing.plan,
+            self.standing.totals.as_slice(),
+            unit,
+            reading,
+        );
         reading.seat = seat;
         reading.front = self.length();
     }
@@ -132,7 +155,10 @@ impl Kept {
         if self.standing.last <= reading.front {
             return None;
         }
-        position_past(reading.front, self.standing.version_around(problem, reading.unit))
+        position_past(
+            reading.front,
+            self.standing.version_around(problem, reading.unit),
+        )
     }
 
     /// Decides the seat's next draw, as it was judged: the entry is appended, and where it is accepted its move
@@ -153,7 +179,8 @@ impl Kept {
         let accepted = rules
             .stairs
             .accepts(judged.change, rules.schedule.at(position), judged.word);
-        self.standing.decide(problem, judged, accepted, position + 1);
+        self.standing
+            .decide(problem, judged, accepted, position + 1);
         self.draws[judged.seat as usize] += 1;
         let entry = entry_of(judged, accepted);
         self.journal.push_reserved(entry);
@@ -165,7 +192,9 @@ impl Kept {
         ensures { IsClosed self result.journal.items result.plan result.totals.items result.score }
     {
         let Kept {
-            journal, standing, ..
+            journal,
+            standing,
+            ..
         } = self;
         Closed {
             journal,
@@ -178,7 +207,16 @@ impl Kept {
 
 /// The entry of a judged move.
 fn entry_of(judged: &Judged, accepted: bool) -> Entry
-    ensures { result ≡ record { seat = judged.now.seat; number = judged.now.number; unit = judged.now.unit; old = judged.now.old; new = judged.now.new; word = judged.now.word; change = judged.now.change; accepted = accepted } }
+    ensures { result ≡ record {
+      seat = judged.now.seat;
+      number = judged.now.number;
+      unit = judged.now.unit;
+      old = judged.now.old;
+      new = judged.now.new;
+      word = judged.now.word;
+      change = judged.now.change;
+      accepted = accepted;
+    } }
 {
     Entry {
         seat: judged.seat,

@@ -62,7 +62,9 @@ fn changes_of(
     requires runs { run ≤ 1000 }
     requires legal { IsLegalPlan problem.now plan.now }
     requires some_free { 0 < length (free_units problem.now) }
-    ensures changes { IfOk result (λ changes. changes.items ≡ list_below 1000 (λ k. change_by_draw problem.now plan.now (draw_at seed run 61 (free_units problem.now) (counts_of problem.now) k))) }
+    ensures changes { IfOk result (λ changes. changes.items ≡ list_below 1000
+        (λ k. change_by_draw problem.now plan.now
+        (draw_at seed run 61 (free_units problem.now) (counts_of problem.now) k))) }
     ensures sizes { IfOk result (λ changes. All (λ d. unsigned_abs d ≤ 10 ^ 25) changes.items) }
 {
     let totals = totals_of(alloc, problem, plan)?;
@@ -71,7 +73,14 @@ fn changes_of(
     let mut drawer = Drawer::new(seed, run, SEAT);
     let mut changes = Vec::with_capacity(alloc, SAMPLES)?;
     for _ in 0..SAMPLES {
-        let change = next_change(problem, plan, totals.as_slice(), &mut drawer, &mut reading, &mut judged);
+        let change = next_change(
+            problem,
+            plan,
+            totals.as_slice(),
+            &mut drawer,
+            &mut reading,
+            &mut judged,
+        );
         changes.push(change)?;
     }
     Ok(changes)
@@ -93,7 +102,9 @@ fn next_change(
     requires early { drawer.old.taken ≤ 3000 }
     requires reading { FitsReading problem.now reading.old }
     requires judged { FitsJudged problem.now judged.now }
-    ensures change { (k : ℕ) → drawer.old.taken ≡ 3 * k → result ≡ change_by_draw problem.now plan.now (draw_at drawer.old.seed drawer.old.run drawer.old.seat (free_units problem.now) (counts_of problem.now) k) }
+    ensures change { (k : ℕ) → drawer.old.taken ≡ 3 * k
+        → result ≡ change_by_draw problem.now plan.now
+        (draw_at drawer.old.seed drawer.old.run drawer.old.seat (free_units problem.now) (counts_of problem.now) k) }
     ensures size { unsigned_abs result ≤ 10 ^ 25 }
     ensures taken { drawer.new ≡ record drawer.old { taken = drawer.old.taken + 3 } }
     ensures reading { FitsReading problem.now reading.new }

@@ -36,7 +36,8 @@ impl Standing {
     pub(crate) fn of(alloc: Global, problem: &Problem, plan: Plan) -> Result<Standing, NoMemory>
         requires { IsLegalPlan problem.now plan }
         ensures plan { IfOk result (λ standing. standing.plan ≡ plan) }
-        ensures position { IfOk result (λ standing. IsPosition problem.now standing.plan standing.totals.items standing.score) }
+        ensures position { IfOk result (λ standing.
+            IsPosition problem.now standing.plan standing.totals.items standing.score) }
         ensures units { IfOk result (λ standing. standing.units.items ≡ replicate (unit_count problem.now) 0) }
         ensures rows { IfOk result (λ standing. standing.rows.items ≡ replicate (target_count problem.now) 0) }
         ensures last { IfOk result (λ standing. standing.last ≡ 0) }
@@ -75,15 +76,27 @@ impl Standing {
         requires moves { IsMoveFrom problem.now self.old.plan judged.now }
         requires units { length self.old.units.items ≡ unit_count problem.now }
         requires rows { length self.old.rows.items ≡ target_count problem.now }
-        ensures plan { self.new.plan ≡ (if accepted then moved_plan self.old.plan judged.now.unit judged.now.new else self.old.plan) }
+        ensures plan { self.new.plan ≡
+            (if accepted then moved_plan self.old.plan judged.now.unit judged.now.new else self.old.plan) }
         ensures position { IsPosition problem.now self.new.plan self.new.totals.items self.new.score }
-        ensures units { self.new.units.items ≡ (if accepted then slice_set self.old.units.items judged.now.unit count else self.old.units.items) }
-        ensures rows { self.new.rows.items ≡ (if accepted then raised_rows problem.now judged.now.unit judged.now.old judged.now.new count self.old.rows.items else self.old.rows.items) }
+        ensures units { self.new.units.items ≡
+            (if accepted then slice_set self.old.units.items judged.now.unit count else self.old.units.items) }
+        ensures rows { self.new.rows.items ≡
+            (if accepted
+            then raised_rows problem.now judged.now.unit judged.now.old judged.now.new count self.old.rows.items
+            else self.old.rows.items) }
         ensures last { self.new.last ≡ (if accepted then count else self.old.last) }
     {
         if accepted {
             self.score = changed_score(problem, &self.plan, &self.score, judged);
-            move_rows(problem, &self.plan, judged, count, &mut self.totals, &mut self.rows);
+            move_rows(
+                problem,
+                &self.plan,
+                judged,
+                count,
+                &mut self.totals,
+                &mut self.rows,
+            );
             self.plan.put(problem, judged.unit, judged.new);
             self.units[judged.unit as usize] = count;
             self.last = count;
@@ -104,8 +117,10 @@ fn move_rows(
     requires moves { IsMoveFrom problem.now plan.now judged.now }
     requires totals { totals.old.items ≡ totals_of_plan problem.now plan.now }
     requires rows { length versions.old.items ≡ target_count problem.now }
-    ensures totals { totals.new.items ≡ totals_of_plan problem.now (moved_plan plan.now judged.now.unit judged.now.new) }
-    ensures rows { versions.new.items ≡ raised_rows problem.now judged.now.unit judged.now.old judged.now.new count versions.old.items }
+    ensures totals { totals.new.items ≡
+        totals_of_plan problem.now (moved_plan plan.now judged.now.unit judged.now.new) }
+    ensures rows { versions.new.items ≡
+        raised_rows problem.now judged.now.unit judged.now.old judged.now.new count versions.old.items }
 {
     let _ = plan;
     let moved = judged.totals.as_slice();

@@ -22,12 +22,7 @@ fn changed(sum: u128, change: i128) -> u128
 }
 
 /// The score of a plan once the judged move is made.
-pub(crate) fn changed_score(
-    problem: &Problem,
-    plan: &Plan,
-    score: &Score,
-    judged: &Judged,
-) -> Score
+pub(crate) fn changed_score(problem: &Problem, plan: &Plan, score: &Score, judged: &Judged) -> Score
     requires valid { IsValid problem.now }
     requires moves { IsMoveFrom problem.now plan.now judged.now }
     requires score { score.now ≡ score_of_plan problem.now plan.now }

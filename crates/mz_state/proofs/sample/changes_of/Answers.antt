@@ -2,7 +2,7 @@ use Rattle.std.proofs.Common.{◌≡◌, ℕ, ℤ, [], ◌∷◌, ◌++◌, ap, 
 use Rattle.std.specs.Int.{w128}
 use Rattle.std.proofs.lemmas.Int.{to_z-of_z}
 use Rattle.mz_num.specs.Places.{list_below}
-use Rattle.mz_state.proofs.SampleLaws.{sample_at, sampled-early, sampled-more, sampled-none, sampled-whole}
+use Rattle.mz_state.proofs.SampleLaws.{sample_at, sampled-early, sampled-more, sampled-whole}
 use Rattle.mz_state.proofs.sample.changes_of.Goals as goal
 
 pub next_change-change-requires-clause-whole : goal.next_change-change-requires-clause-whole

@@ -1,4 +1,4 @@
-use Rattle.std.proofs.Common.{◌≡◌, ◌∙◌}
+use Rattle.std.proofs.Common.{◌∙◌}
 use Rattle.std.specs.Prelude.{slice_index}
 use Rattle.mz_state.proofs.ReachLaws.{greatest_by-next}
 use Rattle.mz_state.proofs.versions.greatest_of_units.Goals as goal

@@ -1,4 +1,3 @@
-use Rattle.mz_state.proofs.CommitLaws.{commit-moves}
 use Rattle.mz_state.proofs.KeptLaws.{drawn-next}
 use Rattle.mz_state.proofs.kept.Kept.next_draw.Goals as goal
 

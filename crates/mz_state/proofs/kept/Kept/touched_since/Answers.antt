@@ -1,4 +1,3 @@
-use Rattle.std.proofs.Common.{◌∙◌}
 use Rattle.mz_state.proofs.KeptLaws.{none-touched, row-count, some-touched, unit-count}
 use Rattle.mz_state.proofs.kept.Kept.touched_since.Goals as goal
 

@@ -1,0 +1,48 @@
+//! Rules of parameters that give no start.
+ghost use Rattle.std.specs.Prelude.{◌≤◌, IfOk};
+ghost use Rattle.mz_history.specs.Rules.{IsRules};
+
+use mz_examples::{build_lone_unit, build_no_units};
+use mz_history::Rules;
+use mz_model::Problem;
+use mz_num::NoMemory;
+use mz_params::Params;
+use mz_state::rules_of;
+use std::alloc::Global;
+use std::test::Fail;
+
+/// The parameters of a run of ten entries at one temperature, which is to be fitted.
+const FITTED: &[u8] = b"PUNAME pu.dat\nNUMITNS 10\nNUMTEMP 1\nSTARTTEMP -1\n";
+
+/// The first temperature, in thousandths of a ten-thousandth, and the factor.
+fn first_and_factor(rules: &Rules) -> Option<(u128, u32)>
+    requires { IsRules rules.now }
+{
+    if rules.limit == 0 {
+        return None;
+    }
+    Some((rules.schedule.at(0), rules.schedule.factor()))
+}
+
+/// The first temperature and the factor that are fitted to a problem.
+fn fitted(alloc: Global, problem: &Problem) -> Result<Option<(u128, u32)>, NoMemory> {
+    let Ok(params) = Params::read(alloc, FITTED) else {
+        return Ok(None);
+    };
+    let rules = rules_of(alloc, problem, &params, 7, 1)?;
+    Ok(first_and_factor(&rules))
+}
+
+#[test]
+fn a_lone_unit_of_cost_ten(rt: HostRuntime) -> Result<(), Fail> {
+    let problem = build_lone_unit(rt.alloc())?;
+    assert!(rt; fitted(rt.alloc(), &problem)? == Some((100_000_000, 100_000_009)));
+    Ok(())
+}
+
+#[test]
+fn no_free_unit_changes_nothing(rt: HostRuntime) -> Result<(), Fail> {
+    let problem = build_no_units(rt.alloc())?;
+    assert!(rt; fitted(rt.alloc(), &problem)? == Some((1_000, 1_999_999)));
+    Ok(())
+}
