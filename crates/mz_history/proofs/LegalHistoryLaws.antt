@@ -1,19 +1,16 @@
 -- What callers need of legal histories: their beginnings, their numbers, their plans.
-use Rattle.std.proofs.Common.{◌≡◌, ℕ, zero, suc, ◌+◌, ◌*◌, ◌<◌, ◌≤◌, ◌==◌, cond, true, false, List, [], ◌∷◌, ◌++◌, length, get_or, set, take, map, Some, refl, sym, ap, subst, ◌∙◌, arith, inl, inr, length-set, get_or-set_other, get_or-set_same}
+use Rattle.std.proofs.Common.{◌≡◌, ℕ, zero, suc, ◌+◌, ◌*◌, ◌<◌, ◌≤◌, ◌==◌, true, false, List, [], ◌∷◌, ◌++◌, length, get_or, take, map, Some, refl, sym, ap, subst, ◌∙◌, arith, inl, inr, length-set, get_or-set_other, get_or-set_same}
 use Rattle.std.specs.Prelude.{IsTrue, slice_index}
-use Rattle.std.specs.List.{All, filter, last_or, range_with_len}
+use Rattle.std.specs.List.{last_or, range_with_len}
 use Rattle.std.proofs.Math.Seq.{set_out, take-length}
 use Rattle.std.proofs.lemmas.Bool.Decides.{leb_tells}
 use Rattle.std.proofs.lemmas.Bool.{cases_Bool, cases_eq, cond-true, cond-false, eq-eqb, ne_eqb}
-use Rattle.std.proofs.lemmas.List.{append-nil, length-map, map_push, take-map, take_more}
+use Rattle.std.proofs.lemmas.List.{append-nil, map_push, take-map, take_more}
 use Rattle.std.proofs.lemmas.List.Elements.{filter-append}
 use Rattle.std.proofs.lemmas.List.FromFn.{map-range_with_len_more}
-use Rattle.mz_draw.specs.Draws.{draw_at}
 use Rattle.mz_draw.specs.Words.{pick_of, word_at}
-use Rattle.mz_draw.specs.declared.draw.Draw.{Draw}
 use Rattle.mz_draw.proofs.DrawLemmas.{draw_at-number}
 use Rattle.mz_draw.proofs.WordLemmas.{pick_of-lt, word_at-lt}
-use Rattle.mz_num.specs.Places.{list_below}
 use Rattle.mz_num.proofs.PlaceLaws.{get_or-list_below, length-list_below}
 use Rattle.mz_model.specs.declared.parts.Parts.{Parts}
 use Rattle.mz_model.specs.Parts.{unit_count}
@@ -22,15 +19,15 @@ use Rattle.mz_model.specs.Move.{moved_plan}
 use Rattle.mz_model.specs.declared.score.Score.{Score}
 use Rattle.mz_model.specs.Valid.{IsValid}
 use Rattle.mz_model.specs.Zones.{allowed_zones, counts_of, free_units, is_allowed, is_free}
-use Rattle.mz_model.proofs.ZoneLaws.{allowed_zones-allowed, step_of-allowed}
+use Rattle.mz_model.proofs.ZoneLaws.{step_of-allowed}
 use Rattle.mz_history.specs.declared.entry.Entry.{Entry}
 use Rattle.mz_history.specs.Core.{entry_of_seat, next_draw, seats_of}
-use Rattle.mz_history.specs.Entry.{drawn_zone, next_entry, plan_after}
+use Rattle.mz_history.specs.Entry.{plan_after}
 use Rattle.mz_history.specs.History.{entries_of_seat, IsHistory, IsSound}
-use Rattle.mz_history.specs.Replay.{entries_from, entry_of_turn, IsLegalHistory, plan_after_all, plan_of_history, replay_of, Setting, turns_of}
-use Rattle.mz_history.specs.Start.{free_before, is_drawn, resting_zone, start_seat, starting_plan, starting_zone}
+use Rattle.mz_history.specs.Replay.{entries_from, entry_of_turn, IsLegalHistory, plan_of_history, replay_of, Setting, turns_of}
+use Rattle.mz_history.specs.Start.{free_before, is_drawn, start_seat, starting_plan, starting_zone}
 use Rattle.mz_history.specs.World.{IsWorld, WorldState}
-use Rattle.mz_history.proofs.HistoryLaws.{legal-push, plan-push, replay_of-push, turns_of-other, turns_of-own}
+use Rattle.mz_history.proofs.HistoryLaws.{plan-push, replay_of-push, turns_of-other, turns_of-own}
 use Rattle.mz_history.proofs.StartLemmas.{allowed_at, some_allowed}
 
 -- ---- beginnings
@@ -124,16 +121,16 @@ numbered-more : (s : Setting) (seat : ℕ) (before : List Entry) (entry : Entry)
 unfolding AreNumbered
 numbered-more s seat before entry step so_far = elim (cases_eq entry.seat seat) [
   | inl own ↦
-    let count = turns_of seat (seats_of before) in
-    let turns : turns_of seat (seats_of (before ++ entry ∷ [])) ≡ count + 1 =
-    ap (turns_of seat) (map_push (λ (e : Entry). e.seat) before entry ∙ ap (λ n. seats_of before ++ n ∷ []) own) ∙ turns_of-own seat (seats_of before) in
-    let number : entry.number ≡ count = ap (λ (e : Entry). e.number) step.next ∙ next-number s before entry.seat ∙ ap (λ n. turns_of n (seats_of before)) own in
-    ap (map (λ (e : Entry). e.number)) (filter-own seat before entry own) ∙ map_push (λ (e : Entry). e.number) (entries_of_seat seat before) entry
-    ∙ ap (λ ns. ns ++ entry.number ∷ []) so_far ∙ ap (λ n. range_with_len 0 count ++ n ∷ []) number
-    ∙ sym (range-more count) ∙ ap (range_with_len 0) (sym turns)
+      let count = turns_of seat (seats_of before) in
+      let turns : turns_of seat (seats_of (before ++ entry ∷ [])) ≡ count + 1 =
+      ap (turns_of seat) (map_push (λ (e : Entry). e.seat) before entry ∙ ap (λ n. seats_of before ++ n ∷ []) own) ∙ turns_of-own seat (seats_of before) in
+      let number : entry.number ≡ count = ap (λ (e : Entry). e.number) step.next ∙ next-number s before entry.seat ∙ ap (λ n. turns_of n (seats_of before)) own in
+      ap (map (λ (e : Entry). e.number)) (filter-own seat before entry own) ∙ map_push (λ (e : Entry). e.number) (entries_of_seat seat before) entry
+      ∙ ap (λ ns. ns ++ entry.number ∷ []) so_far ∙ ap (λ n. range_with_len 0 count ++ n ∷ []) number
+      ∙ sym (range-more count) ∙ ap (range_with_len 0) (sym turns)
   | inr other ↦
-    ap (map (λ (e : Entry). e.number)) (filter-other seat before entry other) ∙ so_far
-    ∙ ap (range_with_len 0) (sym (ap (turns_of seat) (map_push (λ (e : Entry). e.seat) before entry) ∙ turns_of-other seat entry.seat (seats_of before) other))
+      ap (map (λ (e : Entry). e.number)) (filter-other seat before entry other) ∙ so_far
+      ∙ ap (range_with_len 0) (sym (ap (turns_of seat) (map_push (λ (e : Entry). e.seat) before entry) ∙ turns_of-other seat entry.seat (seats_of before) other))
 ]
 
 numbered : (s : Setting) (seat : ℕ) (history : List Entry) → IsLegalHistory s history → AreNumbered seat history
@@ -150,8 +147,8 @@ starting_zone-allowed parts prop seed run unit valid within =
     elim (cases_Bool (is_free parts unit)) [
       | inl free ↦ elim (cases_Bool (is_drawn prop (word_at seed run start_seat (2 * free_before parts unit)))) [
         | inl drawn ↦
-          let place = pick_of (length zones) (word_at seed run start_seat (2 * free_before parts unit + 1)) in
-          rw (free, drawn) (allowed_at parts unit place zones refl (pick_of-lt (length zones) _ some (word_at-lt seed run start_seat (2 * free_before parts unit + 1))))
+            let place = pick_of (length zones) (word_at seed run start_seat (2 * free_before parts unit + 1)) in
+            rw (free, drawn) (allowed_at parts unit place zones refl (pick_of-lt (length zones) _ some (word_at-lt seed run start_seat (2 * free_before parts unit + 1))))
         | inr still ↦ elim (cases_Bool (is_allowed parts unit parts.available)) [
           | inl may ↦ rw (free, still, may) may
           | inr may_not ↦ rw (free, still, may_not) first
@@ -192,7 +189,7 @@ after-legal s before seat valid legal =
       | inl taken ↦ subst (IsLegalPlan s.parts) (sym (after-accepted plan entry taken)) (elim (leb_tells (unit_count s.parts) entry.unit) [
         | inl past ↦ subst (IsLegalPlan s.parts) (sym (set_out plan entry.unit entry.new (omega (arith, legal.whole, past.1)))) legal
         | inr within ↦ set-legal s.parts plan entry.unit entry.new legal within.1
-          (step_of-allowed s.parts entry.unit (slice_index plan entry.unit) (next_draw s.parts s.seed s.run before seat).shift valid within.1 (legal.allowed entry.unit within.1)).allowed
+            (step_of-allowed s.parts entry.unit (slice_index plan entry.unit) (next_draw s.parts s.seed s.run before seat).shift valid within.1 (legal.allowed entry.unit within.1)).allowed
       ])
       | inr refused ↦ subst (IsLegalPlan s.parts) (sym (after-refused plan entry refused)) legal
     ]

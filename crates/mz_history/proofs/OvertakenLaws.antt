@@ -11,9 +11,9 @@ use Rattle.mz_model.specs.Items.{items_of}
 use Rattle.mz_model.specs.declared.parts.Parts.{Parts}
 use Rattle.mz_history.specs.declared.entry.Entry.{Entry}
 use Rattle.mz_history.specs.declared.event.Event.{Event}
-use Rattle.mz_history.specs.declared.event.Event.TheVariants.{Look, Commit}
+use Rattle.mz_history.specs.declared.event.Event.TheVariants.{Commit}
 use Rattle.mz_history.specs.declared.event.Reply.{Reply}
-use Rattle.mz_history.specs.declared.event.Reply.TheVariants.{Looked, Decided, Again, Full, Strange}
+use Rattle.mz_history.specs.declared.event.Reply.TheVariants.{Again}
 use Rattle.mz_history.specs.declared.seat.SeatReading.{SeatReading}
 use Rattle.mz_history.specs.Core.{answered, commit, committed, Core, reading_of}
 use Rattle.mz_history.specs.Items.{changes, changes_around}

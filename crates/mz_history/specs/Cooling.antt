@@ -1,5 +1,5 @@
 -- The temperatures that parameters ask for.
-use Rattle.std.specs.Prelude.{◌≡◌, ℕ, nat_lt, if◌then◌else◌, List, length, slice_index, ℤ, pos, Option, None, Some}
+use Rattle.std.specs.Prelude.{◌≡◌, ℕ, nat_lt, if◌then◌else◌, List, length, ℤ, pos, Option, None, Some}
 use Rattle.mz_num.specs.Places.{list_below}
 use Rattle.mz_params.specs.declared.params.Params.{Params}
 use Rattle.mz_model.specs.declared.parts.Parts.{Parts}

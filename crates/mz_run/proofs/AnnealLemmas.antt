@@ -1,7 +1,7 @@
 -- A run of annealing by one worker.
-use Rattle.std.proofs.Common.{◌≡◌, ℕ, ◌*◌, ◌+◌, ◌<◌, ◌≤◌, ◌%◌, ◌^◌, List, [], ◌∷◌, ◌++◌, length, map, refl, sym, ap, ◌∙◌, subst, arith}
+use Rattle.std.proofs.Common.{◌≡◌, ℕ, ◌*◌, ◌<◌, ◌≤◌, List, [], length, sym, ap, ◌∙◌, subst, arith}
 use Rattle.std.specs.List.{All}
-use Rattle.std.proofs.lemmas.List.{length-map, map_push}
+use Rattle.std.proofs.lemmas.List.{length-map}
 use Rattle.std.proofs.lemmas.List.Elements.{All-map, All-weaker}
 use Rattle.mz_cool.specs.Schedule.{Cooling}
 use Rattle.mz_draw.specs.Words.{SeatWords}
@@ -13,7 +13,7 @@ use Rattle.mz_model.specs.Scores.{score_of_plan}
 use Rattle.mz_model.specs.Zones.{counts_of, free_units}
 use Rattle.mz_delta.specs.declared.judged.Judged.{Judged}
 use Rattle.mz_delta.specs.declared.reading.Reading.{Reading}
-use Rattle.mz_delta.specs.Judged.{IsRight}
+use Rattle.mz_delta.specs.Rooms.{FitsJudged, FitsReading}
 use Rattle.mz_history.specs.declared.entry.Entry.{Entry}
 use Rattle.mz_history.specs.declared.rules.Rules.{Rules}
 use Rattle.mz_history.specs.Cooling.{AreRulesOf}
@@ -21,9 +21,8 @@ use Rattle.mz_history.specs.Core.{next_draw, seats_of}
 use Rattle.mz_history.specs.Replay.{plan_of_history, replay_of, IsLegalHistory, Setting, turns_of}
 use Rattle.mz_history.specs.Rules.{setting_with}
 use Rattle.mz_history.specs.SeatWords.{words_after}
-use Rattle.mz_history.proofs.HistoryLaws.{turns_of-le, turns_of-own}
 use Rattle.mz_state.specs.Closed.{IsClosed}
-use Rattle.mz_state.specs.Kept.{IsKept, KeptState}
+use Rattle.mz_state.specs.Kept.{KeptState}
 use Rattle.mz_run.specs.declared.anneal.Annealed.{Annealed}
 use Rattle.mz_run.specs.declared.job.Job.{Job}
 use Rattle.mz_run.specs.Annealed.{IsAnnealed}
@@ -67,10 +66,33 @@ annealed-of job run k journal plan totals score annealed some_worker one all clo
     let seats : annealed.turns ≡ seats_of k.journal = turns ∙ ap seats_of closed.journal_is in
     let legal : k.journal ≡ replay_of s (seats_of k.journal) = subst (λ x. IsLegalHistory x k.journal) one.setting closed.kept.journal.history in
     let replayed : k.journal ≡ replay_of s annealed.turns = legal ∙ ap (replay_of s) (sym seats) in record {
-      entries = ap length seats ∙ length-map (λ (e : Entry). e.seat) k.journal ∙ all;
+      entries = ap length seats ∙ length-map k.journal (λ (e : Entry). e.seat) ∙ all;
       seats = subst (All (λ seat. seat < job.workers)) (sym seats) (below_workers job.workers some_worker k.journal (subst (λ n. All (λ (e : Entry). e.seat < n) k.journal) one.seats closed.kept.journal.owners));
       history = subst (IsLegalHistory s) replayed (subst (λ x. IsLegalHistory x k.journal) one.setting closed.kept.journal.history);
       plan_is = plan_is ∙ closed.plan_is ∙ ap (λ x. plan_of_history x k.journal) one.setting ∙ ap (plan_of_history s) replayed;
       legal = subst (λ p. IsLegalPlan p annealed.plan) parts_are (subst (IsLegalPlan k.setting.parts) (sym plan_is) closed.legal);
       score_is = score_is ∙ closed.score_is ∙ ap (λ p. score_of_plan p plan) parts_are ∙ ap (score_of_plan job.problem) (sym plan_is);
     }
+
+-- the drawer's next draw is the seat's
+pub drawn-next : (job : Job) (run : ℕ) (k : KeptState) (words : SeatWords) (free counts : List ℕ) (draw : Draw) (seat : ℕ) → IsOneWorker job run k
+    → words ≡ words_after job.seed run (seats_of k.journal) 0 → free ≡ free_units job.problem → counts ≡ counts_of job.problem → seat ≡ 0
+    → ((d : ℕ) → words.taken ≡ 3 * d → draw ≡ draw_at words.seed words.run words.seat free counts d)
+    → draw ≡ next_draw k.setting.parts k.setting.seed k.setting.run k.journal seat
+drawn-next job run k words free counts draw seat one stands free_is counts_is own drawn =
+    let turns = turns_of 0 (seats_of k.journal) in
+    let taken : words.taken ≡ 3 * turns = ap (λ (w : SeatWords). w.taken) stands in
+    drawn turns taken
+    ∙ ap (λ (w : SeatWords). draw_at w.seed w.run w.seat free counts turns) stands
+    ∙ ap (λ fs. draw_at job.seed run 0 fs counts turns) free_is
+    ∙ ap (λ cs. draw_at job.seed run 0 (free_units job.problem) cs turns) counts_is
+    ∙ ap (λ (s : Setting). draw_at s.seed s.run 0 (free_units s.parts) (counts_of s.parts) turns) (sym one.setting)
+    ∙ ap (λ n. next_draw k.setting.parts k.setting.seed k.setting.run k.journal n) (sym own)
+
+-- where the one worker stands: its next draw is the drawer's, and the rooms fit
+pub record StandsAt (job : Job) (run entries : ℕ) (k : KeptState) (words : SeatWords) (reading : Reading) (judged : Judged) : Type 0 where
+  pub one : IsOneWorker job run k
+  pub stands : words ≡ words_after job.seed run (seats_of k.journal) 0
+  pub few : length k.journal ≤ entries
+  pub reading_fits : FitsReading job.problem reading
+  pub judged_fits : FitsJudged job.problem judged

@@ -72,7 +72,15 @@ fn decide_all(
     let mut drawer = Drawer::new(job.seed, run, SEAT);
     let entries = entries_of(job);
     while kept.length() < entries {
-        decide_next(job, rules, run, &mut drawer, kept, &mut reading, &mut judged);
+        decide_next(
+            job,
+            rules,
+            run,
+            &mut drawer,
+            kept,
+            &mut reading,
+            &mut judged,
+        );
     }
     Ok(())
 }

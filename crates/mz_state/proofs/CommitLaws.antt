@@ -34,7 +34,7 @@ use Rattle.mz_state.specs.Kept.{KeptState}
 use Rattle.mz_state.specs.Looks.{IsLook, IsRightFor}
 use Rattle.mz_state.specs.NextMove.{IsMoveOf, IsNextMove}
 use Rattle.mz_state.specs.Versions.{reach_of}
-use Rattle.mz_state.proofs.ReachLaws.{last-past, past-false, past-true, reach-le, reach-past}
+use Rattle.mz_state.proofs.ReachLaws.{last-past, past-true, reach-past}
 use Rattle.mz_state.proofs.ReadingLaws.{agreeing-values, right-agrees, values-agree}
 
 -- ---- an item that an entry doesn't change

@@ -79,13 +79,6 @@ fn other_run_modes_are_left_out(rt: HostRuntime) -> Result<(), Fail> {
 }
 
 #[test]
-fn a_start_that_is_to_be_found_is_left_out(rt: HostRuntime) -> Result<(), Fail> {
-    let said = "refused: input: STARTTEMP left out\n";
-    assert!(rt; refuses_input(rt.alloc(), b"PUNAME pu.dat\nRUNMODE 6\n", said)?);
-    Ok(())
-}
-
-#[test]
 fn too_many_proposals_are_refused(rt: HostRuntime) -> Result<(), Fail> {
     let said = "refused: input: NUMITNS out of range\n";
     assert!(rt; refuses_input(rt.alloc(), b"PUNAME pu.dat\nNUMITNS 10000001\n", said)?);

@@ -134,6 +134,29 @@ fn the_plain_project_is_run(rt: HostRuntime) -> Result<(), Fail> {
     Ok(())
 }
 
+/// The parameters of the project without a start temperature.
+const FOUND: &[u8] = b"PUNAME pu.dat\nRANDSEED 7\nNUMITNS 5\nNUMTEMP 1\nRUNMODE 6\nSAVEBEST 3\n";
+
+/// The best file of the project from a start that is found.
+const FOUND_BEST: &[u8] = b"planning_unit,zone
+1,2
+2,1
+3,1
+score,10.0000
+cost,10.0000
+boundary,0.0000
+penalty,0.0000
+shortfall,0.0000
+";
+
+#[test]
+fn a_start_that_is_not_given_is_found(rt: HostRuntime) -> Result<(), Fail> {
+    let left = left_by(rt.alloc(), &[("input.dat", FOUND), ("pu.dat", UNITS)])?;
+    assert_eq!(rt; left.outcome.code, 0);
+    assert!(rt; left.has_best(FOUND_BEST));
+    Ok(())
+}
+
 /// A shelf whose calls never fail, with the two files of the project.
 fn safe_project(alloc: Global) -> Result<SafeShelf, Fail> {
     let mut shelf = SafeShelf::new(alloc)?;
