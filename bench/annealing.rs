@@ -245,20 +245,35 @@ impl Region {
     /// The plan that rests in the available zone wherever it may.
     fn start(&self) -> State {
         let plan: Vec<u8> = self.allowed.iter().map(|zones| zones[0]).collect();
+        let totals = self.totals(&plan);
+        let score = self.sums(&plan, &totals).iter().take(3).sum();
+        State { plan, totals, score }
+    }
+
+    /// What a plan holds for each target row.
+    fn totals(&self, plan: &[u8]) -> Vec<u64> {
         let mut totals = vec![0; self.targets.len()];
+        for (unit, &zone) in plan.iter().enumerate() {
+            for &(row, amount) in self.touches.at(unit) {
+                totals[row as usize] += self.gain(row as usize, amount, usize::from(zone));
+            }
+        }
+        totals
+    }
+
+    /// Cost, boundary, penalty and shortfall of a whole plan.
+    fn sums(&self, plan: &[u8], totals: &[u64]) -> [u64; 4] {
         let (mut cost, mut boundary) = (0, 0);
         for (unit, &zone) in plan.iter().enumerate() {
             let zone = usize::from(zone);
             cost += self.costs[unit][zone];
-            for &(row, amount) in self.touches.at(unit) {
-                totals[row as usize] += self.gain(row as usize, amount, zone);
-            }
             for &(neighbour, length) in self.neighbours.at(unit).iter().filter(|n| n.0 as usize > unit) {
                 boundary += round(length * RATES[zone][usize::from(plan[neighbour as usize])], MILLION);
             }
         }
-        let penalty: u64 = (0..totals.len()).map(|row| self.penalty(row, totals[row])).sum();
-        State { plan, totals, score: cost + boundary + penalty }
+        let penalty = (0..totals.len()).map(|row| self.penalty(row, totals[row])).sum();
+        let shortfall = (0..totals.len()).map(|row| self.targets[row].level.saturating_sub(totals[row])).sum();
+        [cost, boundary, penalty, shortfall]
     }
 }
 
@@ -321,9 +336,14 @@ fn main() {
         }
     }
     let nanoseconds = began.elapsed().as_nanos();
+    let sums = region.sums(&state.plan, &region.totals(&state.plan));
     let mut text = String::from("planning_unit,zone\n");
     for (unit, zone) in state.plan.iter().enumerate() {
         text += &format!("{},{}\n", unit + 1, zone + 1);
+    }
+    let numbers = std::iter::once(state.score).chain(sums);
+    for (name, number) in ["score", "cost", "boundary", "penalty", "shortfall"].iter().zip(numbers) {
+        text += &format!("{name},{}.{:04}\n", number / UNIT, number % UNIT);
     }
     fs::write(format!("{folder}/plain_best.csv"), text).unwrap();
     println!("{nanoseconds} {}.{:04}", state.score / UNIT, state.score % UNIT);
