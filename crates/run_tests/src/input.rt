@@ -216,20 +216,15 @@ fn folders_stand_before_the_names(rt: HostRuntime) -> Result<(), Fail> {
     Ok(())
 }
 
-/// Whether this is said of a project of these units, with these further lines and this file.
+/// Whether this is said of a project of these units and this further file.
 fn says<'a>(
     alloc: Global,
-    lines: &[u8],
+    input: &'a [u8],
     units: &'a [u8],
     file: &'a [u8],
     said: &str,
 ) -> Result<bool, Fail> {
-    let input = with_lines(alloc, lines)?;
-    let files = [
-        ("input.dat", input.as_slice()),
-        ("pu.dat", units),
-        ("f.dat", file),
-    ];
+    let files = [("input.dat", input), ("pu.dat", units), ("f.dat", file)];
     Ok(said_by(alloc, &files)?.as_slice() == said.as_bytes())
 }
 
@@ -246,39 +241,36 @@ best 1 score 60.0000
 ";
 
 #[test]
-fn locks_and_zone_sets_limit_the_plan(rt: HostRuntime) -> Result<(), Fail> {
-    let alloc = rt.alloc();
+fn a_lock_limits_the_plan(rt: HostRuntime) -> Result<(), Fail> {
+    let input = with_lines(rt.alloc(), b"PULOCKNAME f.dat\n")?;
     let lock = b"puid,zoneid\n3,2\n";
-    let sets = b"puid,zoneid\n1,2\n2,2\n3,2\n";
-    assert!(rt; says(alloc, b"PULOCKNAME f.dat\n", UNITS, lock, ONE_LOCKED)?);
-    assert!(rt; says(alloc, b"PUZONENAME f.dat\n", UNITS, sets, ALL_IN_ONE_ZONE)?);
+    assert!(rt; says(rt.alloc(), &input, UNITS, lock, ONE_LOCKED)?);
     Ok(())
 }
 
 #[test]
-fn a_second_lock_and_a_second_zone_are_refused(rt: HostRuntime) -> Result<(), Fail> {
-    let alloc = rt.alloc();
-    let both = b"PUZONENAME f.dat\nPULOCKNAME f.dat\n";
+fn zone_sets_limit_the_plan(rt: HostRuntime) -> Result<(), Fail> {
+    let input = with_lines(rt.alloc(), b"PUZONENAME f.dat\n")?;
+    let sets = b"puid,zoneid\n1,2\n2,2\n3,2\n";
+    assert!(rt; says(rt.alloc(), &input, UNITS, sets, ALL_IN_ONE_ZONE)?);
+    Ok(())
+}
+
+#[test]
+fn a_second_lock_of_a_unit_is_refused(rt: HostRuntime) -> Result<(), Fail> {
+    let input = with_lines(rt.alloc(), b"PUZONENAME f.dat\nPULOCKNAME f.dat\n")?;
     let locks = b"puid,zoneid\n1,1\n1,2\n";
+    let said = "refused: pulock: line 3 repeated\n";
+    assert!(rt; says(rt.alloc(), &input, UNITS, locks, said)?);
+    Ok(())
+}
+
+#[test]
+fn a_second_zone_of_one_id_is_refused(rt: HostRuntime) -> Result<(), Fail> {
+    let input = with_lines(rt.alloc(), b"ZONESNAME f.dat\n")?;
     let zones = b"id,name\n1,a\n1,b\n";
-    assert!(rt;
-        says(
-            alloc,
-            both,
-            UNITS,
-            locks,
-            "refused: pulock: line 3 repeated\n"
-        )?
-    );
-    assert!(rt;
-        says(
-            alloc,
-            b"ZONESNAME f.dat\n",
-            UNITS,
-            zones,
-            "refused: zones: line 3 repeated\n"
-        )?
-    );
+    let said = "refused: zones: line 3 repeated\n";
+    assert!(rt; says(rt.alloc(), &input, UNITS, zones, said)?);
     Ok(())
 }
 
@@ -310,7 +302,7 @@ best 1 score 0.0000
 
 #[test]
 fn a_project_may_have_no_units(rt: HostRuntime) -> Result<(), Fail> {
-    assert!(rt; says(rt.alloc(), b"", b"id,cost\n", b"", NO_UNITS)?);
+    assert!(rt; says(rt.alloc(), INPUT, b"id,cost\n", b"", NO_UNITS)?);
     Ok(())
 }
 
