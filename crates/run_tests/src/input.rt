@@ -1,5 +1,5 @@
 //! Parameter files and unit files that are taken or refused.
-use crate::left::{Left, left_by, left_on, said_by, shelf_with};
+use crate::left::{Left, left_by, left_on, shelf_with};
 use crate::plain::{BEST, INPUT, SAID, UNITS, run_plain, words};
 use mz_model::{Plan, Problem, evaluate};
 use mz_run::prepare;
@@ -225,7 +225,8 @@ fn says<'a>(
     said: &str,
 ) -> Result<bool, Fail> {
     let files = [("input.dat", input), ("pu.dat", units), ("f.dat", file)];
-    Ok(said_by(alloc, &files)?.as_slice() == said.as_bytes())
+    let left = left_by(alloc, &files)?;
+    Ok(left.has_said(said.as_bytes()))
 }
 
 const ONE_LOCKED: &str = "seed 7

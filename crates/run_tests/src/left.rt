@@ -74,8 +74,3 @@ pub(crate) fn left_by(alloc: Global, files: &[(&str, &[u8])]) -> Result<Left, Fa
     let mut shelf = shelf_with(alloc, Vec::new(alloc), 0, files)?;
     left_on(alloc, &mut shelf, "output_best.csv")
 }
-
-/// What is said of a run whose calls don't fail.
-pub(crate) fn said_by(alloc: Global, files: &[(&str, &[u8])]) -> Result<Vec<u8>, Fail> {
-    Ok(left_by(alloc, files)?.said)
-}
