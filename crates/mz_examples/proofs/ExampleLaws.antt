@@ -6,7 +6,7 @@ use Rattle.mz_model.specs.declared.parts.Target.{Target}
 use Rattle.mz_model.specs.declared.score.Score.{Score}
 use Rattle.mz_model.specs.Amounts.{holders_of, total_of}
 use Rattle.mz_model.specs.Boundary.{as_neighbour, edge_term_of, greatest_rate, neighbours_of}
-use Rattle.mz_examples.specs.Examples.{lone_unit, no_units, three_units, three_zones, unheld_features}
+use Rattle.mz_examples.specs.Examples.{alike_zones, lone_unit, no_units, three_units, three_zones, unheld_features}
 use Rattle.mz_model.specs.Scores.{boundary_of_plan, cost_of_plan, outer_term, pair_term, penalty_of_plan, penalty_term_of, score_of_plan}
 use Rattle.mz_model.specs.Targets.{amount_for, gain_from, gain_of, held_of, is_touched, shortfall_of, touched_rows}
 use Rattle.mz_model.specs.Valid.{IsValid}
@@ -20,6 +20,10 @@ three_units-valid = valid_from three_units refl refl refl
 pub three_zones-valid : IsValid three_zones
 unfolding three_zones total_of holders_of greatest_rate gain_of gain_from amount_for round
 three_zones-valid = valid_from three_zones refl refl refl
+
+pub alike_zones-valid : IsValid alike_zones
+unfolding alike_zones total_of holders_of greatest_rate gain_of gain_from amount_for round
+alike_zones-valid = valid_from alike_zones refl refl refl
 
 pub unheld_features-valid : IsValid unheld_features
 unfolding unheld_features three_units total_of holders_of greatest_rate gain_of gain_from amount_for round

@@ -57,6 +57,24 @@ unheld_features = record three_units {
   fractions = 0 ∷ 0 ∷ 0 ∷ 1000000 ∷ 1000000 ∷ 1000000 ∷ [];
 }
 
+-- three units apart from one another, at no cost, resting in the second zone, which counts as much as the third
+unfoldable pub alike_zones : Parts
+alike_zones = record {
+  unit_ids = 1 ∷ 2 ∷ 3 ∷ [];
+  zone_ids = 1 ∷ 2 ∷ 3 ∷ [];
+  feature_ids = 1 ∷ [];
+  names = (102 ∷ []) ∷ [];
+  available = 1;
+  allowed = 7 ∷ 7 ∷ 7 ∷ [];
+  costs = 0 ∷ 0 ∷ 0 ∷ 0 ∷ 0 ∷ 0 ∷ 0 ∷ 0 ∷ 0 ∷ [];
+  rates = 0 ∷ 0 ∷ 0 ∷ 0 ∷ 0 ∷ 0 ∷ 0 ∷ 0 ∷ 0 ∷ [];
+  edges = [];
+  outer = 0 ∷ 0 ∷ 0 ∷ [];
+  targets = four_anywhere ∷ [];
+  amounts = (0, 0, 20000) ∷ (1, 0, 30000) ∷ (2, 0, 40000) ∷ [];
+  fractions = 0 ∷ 1000000 ∷ 1000000 ∷ [];
+}
+
 -- no unit at all
 unfoldable pub no_units : Parts
 no_units = record {

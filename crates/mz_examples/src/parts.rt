@@ -1,6 +1,6 @@
 //! What the small problems are made of.
 ghost use Rattle.std.specs.Prelude.{◌≡◌, ◌∷◌, [], IfOk, replicate};
-ghost use Rattle.mz_examples.specs.Examples.{lone_unit, no_units, three_units, three_zones, unheld_features};
+ghost use Rattle.mz_examples.specs.Examples.{alike_zones, lone_unit, no_units, three_units, three_zones, unheld_features};
 ghost use Rattle.mz_num.specs.Places.{list_below};
 ghost use Rattle.mz_model.specs.Valid.{IsValid};
 
@@ -102,6 +102,40 @@ pub fn make_three_zones(alloc: Global) -> Result<Parts, NoMemory>
         feature_ids,
         names,
         available: 0,
+        allowed,
+        costs,
+        rates,
+        edges,
+        outer,
+        targets,
+        amounts,
+        fractions,
+    })
+}
+
+/// The units of three zones apart from one another. They rest in the second zone, which counts as much as the
+/// third.
+pub fn make_alike_zones(alloc: Global) -> Result<Parts, NoMemory>
+    ensures { IfOk result (λ parts. parts ≡ alike_zones) }
+{
+    let unit_ids = list(alloc, &[1, 2, 3])?;
+    let zone_ids = list(alloc, &[1, 2, 3])?;
+    let feature_ids = list(alloc, &[1])?;
+    let names = one_name(alloc)?;
+    let allowed = list(alloc, &[7, 7, 7])?;
+    let costs = list(alloc, &[0, 0, 0, 0, 0, 0, 0, 0, 0])?;
+    let rates = list(alloc, &[0, 0, 0, 0, 0, 0, 0, 0, 0])?;
+    let edges = list(alloc, &[])?;
+    let outer = list(alloc, &[0, 0, 0])?;
+    let targets = list(alloc, &[ANYWHERE])?;
+    let amounts = list(alloc, &[(0, 0, 20_000), (1, 0, 30_000), (2, 0, 40_000)])?;
+    let fractions = list(alloc, &[0, 1_000_000, 1_000_000])?;
+    Ok(Parts {
+        unit_ids,
+        zone_ids,
+        feature_ids,
+        names,
+        available: 1,
         allowed,
         costs,
         rates,

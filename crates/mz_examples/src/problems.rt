@@ -1,11 +1,11 @@
 //! The small problems.
 ghost use Rattle.std.specs.Prelude.{◌≡◌, IfOk};
-ghost use Rattle.mz_examples.specs.Examples.{lone_unit, no_units, three_units, three_zones, unheld_features};
+ghost use Rattle.mz_examples.specs.Examples.{alike_zones, lone_unit, no_units, three_units, three_zones, unheld_features};
 ghost use Rattle.mz_model.specs.Valid.{IsValid};
 
 use crate::parts::{
-    make_lone_unit, make_no_units, make_sixty_zones, make_three_units, make_three_zones,
-    make_unheld_features,
+    make_alike_zones, make_lone_unit, make_no_units, make_sixty_zones, make_three_units,
+    make_three_zones, make_unheld_features,
 };
 use mz_model::Problem;
 use mz_num::NoMemory;
@@ -22,6 +22,13 @@ pub fn build_three_zones(alloc: Global) -> Result<Problem, NoMemory>
     ensures { IfOk result (λ problem. problem ≡ three_zones) }
 {
     let parts = make_three_zones(alloc)?;
+    Problem::build(alloc, parts)
+}
+
+pub fn build_alike_zones(alloc: Global) -> Result<Problem, NoMemory>
+    ensures { IfOk result (λ problem. problem ≡ alike_zones) }
+{
+    let parts = make_alike_zones(alloc)?;
     Problem::build(alloc, parts)
 }
 

@@ -2,7 +2,7 @@
 ghost use Rattle.std.specs.Prelude.{◌≤◌, IfOk};
 ghost use Rattle.mz_history.specs.Rules.{IsRules};
 
-use mz_examples::{build_lone_unit, build_no_units};
+use super::{lone_unit, no_units};
 use mz_history::Rules;
 use mz_model::Problem;
 use mz_num::NoMemory;
@@ -24,9 +24,9 @@ fn first_and_factor(rules: &Rules) -> Option<(u128, u32)>
     Some((rules.schedule.at(0), rules.schedule.factor()))
 }
 
-/// The first temperature and the factor that are fitted to a problem.
-fn fitted(alloc: Global, problem: &Problem) -> Result<Option<(u128, u32)>, NoMemory> {
-    let Ok(params) = Params::read(alloc, FITTED) else {
+/// The first temperature and the factor that parameters ask of a problem.
+fn fit(alloc: Global, problem: &Problem, input: &[u8]) -> Result<Option<(u128, u32)>, NoMemory> {
+    let Ok(params) = Params::read(alloc, input) else {
         return Ok(None);
     };
     let rules = rules_of(alloc, problem, &params, 7, 1)?;
@@ -35,14 +35,14 @@ fn fitted(alloc: Global, problem: &Problem) -> Result<Option<(u128, u32)>, NoMem
 
 #[test]
 fn a_lone_unit_of_cost_ten(rt: HostRuntime) -> Result<(), Fail> {
-    let problem = build_lone_unit(rt.alloc())?;
-    assert!(rt; fitted(rt.alloc(), &problem)? == Some((100_000_000, 100_000_009)));
+    let problem = lone_unit(rt.alloc())?;
+    assert!(rt; fit(rt.alloc(), &problem, FITTED)? == Some((100_000_000, 100_000_009)));
     Ok(())
 }
 
 #[test]
 fn no_free_unit_changes_nothing(rt: HostRuntime) -> Result<(), Fail> {
-    let problem = build_no_units(rt.alloc())?;
-    assert!(rt; fitted(rt.alloc(), &problem)? == Some((1_000, 1_999_999)));
+    let problem = no_units(rt.alloc())?;
+    assert!(rt; fit(rt.alloc(), &problem, FITTED)? == Some((1_000, 1_999_999)));
     Ok(())
 }

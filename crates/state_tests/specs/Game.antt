@@ -1,0 +1,20 @@
+-- A game: the core and the kept state, played with the same rules by sixty seats.
+use Rattle.std.specs.Prelude.{◌≡◌, ℕ, ◌<◌, length}
+use Rattle.mz_model.specs.declared.parts.Parts.{Parts}
+use Rattle.mz_model.specs.Zones.{free_units}
+use Rattle.mz_history.specs.declared.rules.Rules.{Rules}
+use Rattle.mz_history.specs.Rules.{setting_with}
+use Rattle.mz_history.specs.World.{WorldState}
+use Rattle.mz_state.specs.Kept.{KeptState}
+
+-- the kept state is one of run 1 of the problem under these rules, with sixty seats
+pub record IsGame (parts : Parts) (rules : Rules) (seed : ℕ) (kept : KeptState) : Type 0 where
+  pub setting : kept.setting ≡ setting_with parts rules seed 1
+  pub limit : kept.limit ≡ rules.limit
+  pub seats : kept.seats ≡ 60
+  pub some_free : 0 < length (free_units parts)
+
+-- the core is one of run 1 of the problem under these rules
+pub record IsCore (parts : Parts) (rules : Rules) (seed : ℕ) (world : WorldState) : Type 0 where
+  pub setting : world.setting ≡ setting_with parts rules seed 1
+  pub limit : world.limit ≡ rules.limit
