@@ -50,7 +50,7 @@ impl LeastSeen {
 }
 
 impl Watcher for LeastSeen {
-    ghost state = { λ s. record { kind = 1; notes = seen s.run s.sum s.least s.place } };
+    ghost noted = { λ s. record { kind = 1; notes = seen s.run s.sum s.least s.place } };
 
     fn tell(&mut self, run: u32, at: u32, entry: &Entry) {
         if run != self.run {

@@ -24,7 +24,7 @@ impl Tally {
 }
 
 impl Watcher for Tally {
-    ghost state = { λ t. record { kind = 0; notes = t.accepted ∷ t.refused ∷ [] } };
+    ghost noted = { λ t. record { kind = 0; notes = t.accepted ∷ t.refused ∷ [] } };
 
     fn tell(&mut self, _run: u32, _at: u32, entry: &Entry) {
         if entry.accepted {

@@ -92,7 +92,7 @@ fn a_tally_goes_on_and_the_least_score_begins_anew(rt: HostRuntime) {
 struct Deaf;
 
 impl Watcher for Deaf {
-    ghost state = { λ _. record { kind = 9; notes = pos 4 ∷ [] } };
+    ghost noted = { λ _. record { kind = 9; notes = pos 4 ∷ [] } };
 
     fn tell(&mut self, _run: u32, _at: u32, _entry: &Entry) {}
 

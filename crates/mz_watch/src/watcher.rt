@@ -6,13 +6,13 @@ use mz_history::Entry;
 
 /// A watcher keeps notes on the entries that it is told. Its kind says which notes, and never changes.
 pub trait Watcher: Drop {
-    ghost state: { Self → WatcherState };
+    ghost noted: { Self → WatcherState };
 
     /// Takes note of the entry at a position of a run's journal. No memory is taken.
     fn tell(&mut self, run: u32, at: u32, entry: &Entry)
-        ensures { state self.new ≡ after_entry run at entry.now (state self.old) };
+        ensures { noted self.new ≡ after_entry run at entry.now (noted self.old) };
 
     /// The number that the notes come to.
     fn report(&self) -> u64
-        ensures { result ≡ report_of (state self.now) };
+        ensures { result ≡ report_of (noted self.now) };
 }
