@@ -3,7 +3,9 @@ use Rattle.std.specs.Prelude.{ℕ, List, [], ◌∷◌, map, codes}
 use Rattle.mz_shelf.specs.Act.{Act}
 use Rattle.mz_shelf.specs.Act.Act.{Write}
 use Rattle.mz_gen.specs.declared.file.GeneratedFile.{GeneratedFile}
-use Rattle.mz_gen.specs.declared.file.GeneratedFile.TheVariants.{Parameters, Zones, Units, ZoneCosts, Features, Amounts, Contribs, ZoneTargets, ZoneSets, Locks, Bounds, ZoneBounds}
+use Rattle.mz_gen.specs.declared.file.GeneratedFile.TheVariants.{Parameters, Zones, Units, ZoneCosts, Features, Amounts}
+use Rattle.mz_gen.specs.declared.file.GeneratedFile.TheVariants.{Contribs, ZoneTargets, ZoneSets, Locks}
+use Rattle.mz_gen.specs.declared.file.GeneratedFile.TheVariants.{Bounds, ZoneBounds}
 use Rattle.mz_gen.specs.Bounds.{bounds_text}
 use Rattle.mz_gen.specs.Features.{features_text, contribs_text}
 use Rattle.mz_gen.specs.Parameters.{parameters_text}

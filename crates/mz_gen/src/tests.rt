@@ -91,8 +91,18 @@ fn one_unit_in_200_is_locked(rt: HostRuntime) {
 #[test]
 fn the_number_is_the_random_seed(rt: HostRuntime) {
     let front = b"PUNAME pu.dat\nFEATNAME feat.dat\nPUVSFEATNAME amounts.dat\n";
-    let back =
-        b"\nBLM 0.5\nRANDSEED 7\nNUMREPS 1\nNUMITNS 100000\nSTARTTEMP -1\nNUMTEMP 1000\nRUNMODE 6\nSAVEBEST 3\nSAVESUMMARY 3\nSAVETURNS 2\n";
+    let back = b"
+BLM 0.5
+RANDSEED 7
+NUMREPS 1
+NUMITNS 100000
+STARTTEMP -1
+NUMTEMP 1000
+RUNMODE 6
+SAVEBEST 3
+SAVESUMMARY 3
+SAVETURNS 2
+";
     assert!(rt; runs(rt.alloc(), "input.dat", front, back));
 }
 

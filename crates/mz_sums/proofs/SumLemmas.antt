@@ -17,7 +17,7 @@ use Rattle.mz_model.specs.Parts.{unit_count, zone_count}
 use Rattle.mz_model.specs.Plans.{IsLegalPlan}
 use Rattle.mz_model.specs.Valid.{IsValid}
 use Rattle.mz_model.proofs.ZoneLaws.{is_allowed-in_range}
-use Rattle.mz_sums.specs.Sums.{Sums, AreSums, gives, sums_of, with_plan}
+use Rattle.mz_sums.specs.Sums.{Sums, AreSums, gives, count_with, sums_of, with_plan}
 
 -- a unit's zone has its place among the counts
 pub place_inside : (unit zone units zones : ℕ) → unit < units → zone < zones → unit * zones + zone < units * zones
@@ -68,7 +68,7 @@ plan_added sums plans plan are =
     let more : sums.added + 1 ≡ length (plans ++ plan ∷ []) = ap (λ (s : Sums). s.added + 1) are ∙ sym (length-append plans (plan ∷ [])) in
     let made : (with_plan sums plan).counts ≡ (sums_of parts (plans ++ plan ∷ [])).counts =
     list_below-same places
-    (λ place. get_or sums.counts place 0 + cond (gives zones place plan) 1 0)
+    (count_with zones plan sums.counts)
     (λ place. count_by (gives zones place) (plans ++ plan ∷ [])) 0
     (λ k h.
     ap (λ n. n + cond (gives zones k plan) 1 0)
@@ -79,13 +79,13 @@ plan_added sums plans plan are =
 -- the same of the fields that the type keeps
 pub plans_more : (parts : Parts) (added : ℕ) (counts new : List ℕ) (units zones : ℕ) (now : Sums) (plans : List (List ℕ)) (plan : List ℕ)
     → now ≡ record { parts = parts; added = added; counts = counts } → units ≡ unit_count parts → zones ≡ zone_count parts
-    → new ≡ list_below (units * zones) (λ place. get_or counts place 0 + cond (gives zones place plan) 1 0)
+    → new ≡ list_below (units * zones) (count_with zones plan counts)
     → now ≡ sums_of now.parts plans → sums_of now.parts (plans ++ plan ∷ []) ≡ record { parts = parts; added = added + 1; counts = new }
 plans_more parts added counts new units zones now plans plan view count same is are =
-    let made : list_below (unit_count parts * zone_count parts) (λ place. get_or counts place 0 + cond (gives (zone_count parts) place plan) 1 0) ≡ new =
+    let made : list_below (unit_count parts * zone_count parts) (count_with (zone_count parts) plan counts) ≡ new =
     sym (is
-    ∙ ap (λ n. list_below (n * zones) (λ place. get_or counts place 0 + cond (gives zones place plan) 1 0)) count
-    ∙ ap (λ n. list_below (unit_count parts * n) (λ place. get_or counts place 0 + cond (gives n place plan) 1 0)) same) in
+    ∙ ap (λ n. list_below (n * zones) (count_with zones plan counts)) count
+    ∙ ap (λ n. list_below (unit_count parts * n) (count_with n plan counts)) same) in
     sym (plan_added now plans plan are) ∙ ap (λ (s : Sums). with_plan s plan) view ∙ (λ k. record { parts = parts; added = added + 1; counts = made k })
 
 one_at_most : (b : Bool) → cond b 1 0 ≤ 1
@@ -95,10 +95,10 @@ one_at_most false = omega arith
 -- what the type keeps stays so
 pub kept_more : (parts : Parts) (added : ℕ) (counts new : List ℕ) (units zones : ℕ) (plan : List ℕ)
     → AreSums (record { parts = parts; added = added; counts = counts }) units zones → added < most_runs
-    → new ≡ list_below (units * zones) (λ place. get_or counts place 0 + cond (gives zones place plan) 1 0)
+    → new ≡ list_below (units * zones) (count_with zones plan counts)
     → AreSums (record { parts = parts; added = added + 1; counts = new }) units zones
 kept_more parts added counts new units zones plan kept few is =
-    let whole : length new ≡ units * zones = ap length is ∙ length-list_below (units * zones) (λ place. get_or counts place 0 + cond (gives zones place plan) 1 0) in
+    let whole : length new ≡ units * zones = ap length is ∙ length-list_below (units * zones) (count_with zones plan counts) in
     let places : length new ≡ unit_count parts * zone_count parts =
     whole ∙ ap (λ n. n * zones) kept.units_are ∙ ap (λ n. unit_count parts * n) kept.zones_are in
     record {
@@ -110,7 +110,7 @@ kept_more parts added counts new units zones plan kept few is =
           let old : get_or counts k 0 ≤ added = kept.most k 0 (omega (arith, kept.places, places)) in
           let at : get_or new k 0 ≡ get_or counts k 0 + cond (gives zones k plan) 1 0 =
           ap (λ (xs : List ℕ). get_or xs k 0) is
-          ∙ get_or-list_below (units * zones) k (λ place. get_or counts place 0 + cond (gives zones place plan) 1 0) 0 (omega arith) in
+          ∙ get_or-list_below (units * zones) k (count_with zones plan counts) 0 (omega arith) in
           omega (arith, one_at_most (gives zones k plan)));
       few = omega arith;
     }
@@ -207,10 +207,10 @@ counted_room counts now units zones plan unit zone most d whole few so_far h i =
 -- all units are counted
 pub all_counted : (counts now : List ℕ) (units zones unit : ℕ) (plan : List ℕ) → units ≤ unit
     → now ≡ list_below (units * zones) (counted counts zones plan unit)
-    → now ≡ list_below (units * zones) (λ place. get_or counts place 0 + cond (gives zones place plan) 1 0)
+    → now ≡ list_below (units * zones) (count_with zones plan counts)
 all_counted counts now units zones unit plan whole so_far =
     so_far
-    ∙ list_below-same (units * zones) (counted counts zones plan unit) (λ place. get_or counts place 0 + cond (gives zones place plan) 1 0) 0
+    ∙ list_below-same (units * zones) (counted counts zones plan unit) (count_with zones plan counts) 0
     (λ k h. elim (cases_lt 0 zones) [
       | inl some_zone ↦ ap (λ b. get_or counts k 0 + cond (b && gives zones k plan) 1 0) (lt-ltb (k / zones) unit (omega (arith, div_below k zones units some_zone h)))
       | inr no_zone ↦ (let none : zones ≡ 0 = omega arith in absurd (omega (arith, ap {B = ℕ} (λ z. units * z) none)))

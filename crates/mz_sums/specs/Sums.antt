@@ -26,13 +26,17 @@ sums_of parts plans = record {
       (λ place. count_by (gives (zone_count parts) place) plans);
 }
 
+-- the count at a place with one plan more
+abbrev pub count_with : ℕ → List ℕ → List ℕ → ℕ → ℕ
+count_with zones plan counts place = slice_index counts place + cond (gives zones place plan) 1 0
+
 -- the sums with one plan more
 abbrev pub with_plan : Sums → List ℕ → Sums
 with_plan sums plan = record {
   parts = sums.parts;
   added = sums.added + 1;
   counts = list_below (unit_count sums.parts * zone_count sums.parts)
-      (λ place. slice_index sums.counts place + cond (gives (zone_count sums.parts) place plan) 1 0);
+      (count_with (zone_count sums.parts) plan sums.counts);
 }
 
 -- how many of the plans give the unit the zone

@@ -1,11 +1,11 @@
 //! How often each unit has each zone in the plans of several runs.
-ghost use Rattle.std.specs.Prelude.{◌≡◌, ℕ, ◌+◌, ◌*◌, ◌<◌, ◌≤◌, ◌++◌, ◌∷◌, ◌==◌, List, [], IfOk, cond, length, slice_index};
+ghost use Rattle.std.specs.Prelude.{◌≡◌, ℕ, ◌+◌, ◌*◌, ◌<◌, ◌≤◌, ◌++◌, ◌∷◌, ◌==◌, List, [], IfOk, length, slice_index};
 ghost use Rattle.std.specs.List.{All, count_by};
 ghost use Rattle.mz_num.specs.Limits.{most_runs};
 ghost use Rattle.mz_num.specs.Places.{list_below};
 ghost use Rattle.mz_model.specs.Parts.{unit_count, zone_count};
 ghost use Rattle.mz_model.specs.Plans.{IsLegalPlan};
-ghost use Rattle.mz_sums.specs.Sums.{count_in, gives, sums_of, with_plan};
+ghost use Rattle.mz_sums.specs.Sums.{count_in, count_with, sums_of, with_plan};
 
 use mz_model::{Plan, Problem};
 use mz_num::NoMemory;
@@ -84,8 +84,7 @@ fn count_zones(counts: &mut Vec<u16>, plan: &Plan, units: u32, zones: u8)
     requires whole { length plan.now ≡ units }
     requires zones_in_range { All (λ zone. zone < zones) plan.now }
     requires few { All (λ count. count < most_runs) counts.old.items }
-    ensures { counts.new.items
-        ≡ list_below (units * zones) (λ place. slice_index counts.old.items place + cond (gives zones place plan.now) 1 0) }
+    ensures { counts.new.items ≡ list_below (units * zones) (count_with zones plan.now counts.old.items) }
 {
     for unit in 0..units {
         counts[unit as usize * zones as usize + plan.zone(unit) as usize] += 1;
