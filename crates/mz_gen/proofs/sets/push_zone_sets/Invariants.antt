@@ -1,0 +1,8 @@
+use Rattle.std.proofs.Common.{◌≡◌, ◌++◌}
+use Rattle.std.specs.List.{concat}
+use Rattle.mz_num.specs.Places.{list_below}
+use Rattle.mz_gen.specs.Sets.{zone_set_lines}
+use Rattle.mz_gen.proofs.sets.push_zone_sets.Given as goal
+
+abbrev pub invariant-loop-unit : goal.invariant-loop-unit
+invariant-loop-unit l = l.text.items ≡ l.initial.text.items ++ concat (list_below l.unit zone_set_lines)

@@ -1,0 +1,4 @@
+pub mod LeastSeen
+pub mod Notes
+pub mod Tally
+pub mod Watcher
