@@ -1,9 +1,8 @@
 //! Parameter files and unit files that are taken or refused.
 use crate::left::{Left, left_by, left_on, shelf_with};
-use crate::plain::{BEST, INPUT, SAID, UNITS, run_plain, words};
+use crate::plain::{BEST, INPUT, SAID, UNITS, ask_job, run_plain};
 use mz_model::{Plan, Problem, evaluate};
-use mz_run::prepare;
-use mz_shelf::{MemShelf, Shelf, ShelfErr};
+use mz_shelf::{Shelf, ShelfErr};
 use std::alloc::{AllocError, Global};
 use std::marker::Model;
 use std::test::Fail;
@@ -161,10 +160,7 @@ fn score_of<'a>(
 ) -> Result<Option<u128>, Fail> {
     let files = [("input.dat", input), ("pu.dat", units)];
     let mut shelf = shelf_with(alloc, Vec::new(alloc), 0, &files)?;
-    match prepare(alloc, &words(alloc, "input.dat", "1")?, 0, &mut shelf) {
-        Ok(job) => Ok(scored(alloc, &job.problem, zones)),
-        Err(_) => Ok(None),
-    }
+    Ok(ask_job(alloc, &mut shelf, |job| scored(alloc, &job.problem, zones))?.flatten())
 }
 
 fn scored(alloc: Global, problem: &Problem, zones: &[u8]) -> Option<u128> {

@@ -1,5 +1,6 @@
 //! Runs over shelves in memory, by what they leave there.
-use crate::plain::{Outcome, run, words};
+use crate::plain::{Outcome, run_plain};
+use mz_num::NoMemory;
 use mz_shelf::MemShelf;
 use std::alloc::Global;
 use std::test::Fail;
@@ -33,9 +34,15 @@ pub(crate) fn shelf_with(
     cut: usize,
     files: &[(&str, &[u8])],
 ) -> Result<MemShelf, Fail> {
-    let mut shelf = MemShelf::new(alloc, fails, cut)?;
+    let mut shelf = empty_shelf(alloc, fails, cut)?;
     put_files(alloc, &mut shelf, files)?;
     Ok(shelf)
+}
+
+// Without a clause a shelf is any shelf to the tests' proofs, and nothing of what it gives is worked out there.
+
+fn empty_shelf(alloc: Global, fails: Vec<u64>, cut: usize) -> Result<MemShelf, NoMemory> {
+    MemShelf::new(alloc, fails, cut)
 }
 
 /// Puts files on a shelf, in the place of those that have their names.
@@ -52,7 +59,7 @@ pub(crate) fn put_files(
 
 /// What a run by one worker leaves on a shelf.
 pub(crate) fn left_on(alloc: Global, shelf: &mut MemShelf, best: &str) -> Result<Left, Fail> {
-    let outcome = run(alloc, &words(alloc, "input.dat", "1")?, shelf)?;
+    let outcome = run_plain(alloc, shelf)?;
     let said = Vec::from_slice(alloc, shelf.said())?;
     let best = copy_of(alloc, shelf.file(best))?;
     Ok(Left {

@@ -54,86 +54,148 @@ CLUMPTYPE 0
 VERBOSITY 3
 ";
 
-fn fault(alloc: Global, bytes: &[u8]) -> Option<ParamFault> {
-    Params::read(alloc, bytes).err()
+// Without a clause the parameters are any to the tests' proofs, and nothing of a file is worked out there.
+
+fn read(alloc: Global, bytes: &[u8]) -> Result<Params, ParamFault> {
+    Params::read(alloc, bytes)
 }
 
-fn name(file: &Option<Text>) -> Option<&str> {
-    match file {
-        Some(name) => Some(name.as_str()),
-        None => None,
+/// Whether the file is taken, and `look` holds of what it gives.
+fn gives<F: Fn(&Params) -> bool + Drop>(alloc: Global, bytes: &[u8], look: F) -> bool
+    requires { F.IsAlwaysCallable look }
+{
+    let params = read(alloc, bytes);
+    match &params {
+        Ok(params) => look(params),
+        Err(_) => false,
     }
+}
+
+fn is_named(file: &Option<Text>, wanted: &str) -> bool {
+    match file {
+        Some(name) => name.as_str() == wanted,
+        None => false,
+    }
+}
+
+fn is_rate(found: Mic6, millionths: u64) -> bool {
+    found.0 == millionths
+}
+
+/// Whether these are the folders for input and for output, and the name of the scenario.
+fn has_folders(params: &Params, input: &str, output: &str, scenario: &str) -> bool {
+    params.input_dir.as_str() == input
+        && params.output_dir.as_str() == output
+        && params.scen.as_str() == scenario
+}
+
+fn has_long_names(params: &Params) -> bool {
+    params.units.as_str() == "pu.dat"
+        && is_named(&params.features, "feat.dat")
+        && is_named(&params.amounts, "puvfeat.dat")
+        && is_named(&params.bounds, "bound.dat")
+        && is_named(&params.zones, "zones.dat")
+        && is_named(&params.costs, "costs.dat")
+        && is_named(&params.zone_costs, "zonecost.dat")
+}
+
+fn names_no_more(params: &Params) -> bool {
+    params.zone_bounds.is_none()
+        && params.contribs.is_none()
+        && params.zone_targets.is_none()
+        && params.locks.is_none()
+        && params.zone_sets.is_none()
 }
 
 #[test]
 fn reads_the_long_file(rt: HostRuntime) -> Result<(), Fail> {
-    let params = Params::read(rt.alloc(), LONG_FILE.as_bytes())?;
-    assert_eq!(rt; params.input_dir.as_str(), "input");
-    assert_eq!(rt; params.output_dir.as_str(), "output");
-    assert_eq!(rt; params.scen.as_str(), "output");
-    assert_eq!(rt; params.units.as_str(), "pu.dat");
-    assert_eq!(rt; name(&params.features), Some("feat.dat"));
-    assert_eq!(rt; name(&params.amounts), Some("puvfeat.dat"));
-    assert_eq!(rt; name(&params.bounds), Some("bound.dat"));
-    assert_eq!(rt; name(&params.zones), Some("zones.dat"));
-    assert_eq!(rt; name(&params.costs), Some("costs.dat"));
-    assert_eq!(rt; name(&params.zone_costs), Some("zonecost.dat"));
-    assert_eq!(rt; name(&params.zone_bounds), None);
-    assert_eq!(rt; name(&params.contribs), None);
-    assert_eq!(rt; name(&params.zone_targets), None);
-    assert_eq!(rt; name(&params.locks), None);
-    assert_eq!(rt; name(&params.zone_sets), None);
+    let alloc = rt.alloc();
+    let text = LONG_FILE.as_bytes();
+    assert!(rt;
+        gives(
+            alloc,
+            text,
+            |params| has_folders(params, "input", "output", "output")
+        )
+    );
+    assert!(rt; gives(alloc, text, |params| has_long_names(params)));
+    assert!(rt; gives(alloc, text, |params| names_no_more(params)));
     Ok(())
+}
+
+fn has_long_counts(params: &Params) -> bool {
+    params.available == 1
+        && params.seed.is_none()
+        && params.reps == 10
+        && params.iterations == 1_000_000
+        && params.levels == 10_000
+        && params.mode == 1
+}
+
+fn has_long_rates(params: &Params) -> bool {
+    is_rate(params.blm, 500_000)
+        && is_rate(params.prop, 0)
+        && is_rate(params.miss_level, 1_000_000)
+        && is_rate(params.cool, 6_000_000)
+        && params.start.is_none()
+}
+
+fn has_long_saves(params: &Params) -> bool {
+    params.save_run == 3
+        && params.save_best == 3
+        && params.save_summary == 3
+        && params.save_missing == 3
+        && params.save_summed == 3
+        && params.save_turns == 0
 }
 
 #[test]
 fn reads_the_numbers_of_the_long_file(rt: HostRuntime) -> Result<(), Fail> {
-    let params = Params::read(rt.alloc(), LONG_FILE.as_bytes())?;
-    assert_eq!(rt; params.available, 1);
-    assert_eq!(rt; params.blm, Mic6(500_000));
-    assert_eq!(rt; params.prop, Mic6(0));
-    assert_eq!(rt; params.miss_level, Mic6(1_000_000));
-    assert_eq!(rt; params.seed, None);
-    assert_eq!(rt; params.reps, 10);
-    assert_eq!(rt; params.iterations, 1_000_000);
-    assert_eq!(rt; params.start, None);
-    assert_eq!(rt; params.cool, Mic6(6_000_000));
-    assert_eq!(rt; params.levels, 10_000);
-    assert_eq!(rt; params.mode, 1);
-    assert_eq!(rt; params.save_run, 3);
-    assert_eq!(rt; params.save_best, 3);
-    assert_eq!(rt; params.save_summary, 3);
-    assert_eq!(rt; params.save_missing, 3);
-    assert_eq!(rt; params.save_summed, 3);
-    assert_eq!(rt; params.save_turns, 0);
+    let alloc = rt.alloc();
+    let text = LONG_FILE.as_bytes();
+    assert!(rt; gives(alloc, text, |params| has_long_counts(params)));
+    assert!(rt; gives(alloc, text, |params| has_long_rates(params)));
+    assert!(rt; gives(alloc, text, |params| has_long_saves(params)));
     Ok(())
+}
+
+fn has_defaults(params: &Params) -> bool {
+    params.features.is_none() && params.reps == 1 && params.iterations == 0 && params.levels == 1
 }
 
 #[test]
 fn gives_the_defaults(rt: HostRuntime) -> Result<(), Fail> {
-    let params = Params::read(rt.alloc(), b"PUNAME pu.dat\nSCENNAME\nPROP 0.25")?;
-    assert_eq!(rt; params.input_dir.as_str(), "");
-    assert_eq!(rt; params.output_dir.as_str(), "");
-    assert_eq!(rt; params.scen.as_str(), "output");
-    assert_eq!(rt; name(&params.features), None);
-    assert_eq!(rt; params.prop, Mic6(250_000));
-    assert_eq!(rt; params.reps, 1);
-    assert_eq!(rt; params.iterations, 0);
-    assert_eq!(rt; params.cool, Mic6(1_000_000));
-    assert_eq!(rt; params.levels, 1);
+    let alloc = rt.alloc();
+    let text = b"PUNAME pu.dat\nSCENNAME\nPROP 0.25";
+    assert!(rt; gives(alloc, text, |params| has_folders(params, "", "", "output")));
+    assert!(rt; gives(alloc, text, |params| has_defaults(params)));
+    assert!(rt; gives(alloc, text, |params| is_rate(params.prop, 250_000)));
+    assert!(rt; gives(alloc, text, |params| is_rate(params.cool, 1_000_000)));
     Ok(())
+}
+
+fn has_marked_lines(params: &Params) -> bool {
+    params.units.as_str() == "my units.dat"
+        && params.seed == Some(7)
+        && params.start == Some(Ten4(5000))
+        && params.mode == 6
 }
 
 #[test]
 fn takes_marks_returns_tabs_and_small_letters(rt: HostRuntime) -> Result<(), Fail> {
     let text =
         b"\xEF\xBB\xBFpuname\tmy units.dat \r\n\t RandSeed\t 7 and more\r\nstarttemp 0.5 \t\r\nRUNMODE 6\r";
-    let params = Params::read(rt.alloc(), text)?;
-    assert_eq!(rt; params.units.as_str(), "my units.dat");
-    assert_eq!(rt; params.seed, Some(7));
-    assert_eq!(rt; params.start, Some(Ten4(5000)));
-    assert_eq!(rt; params.mode, 6);
+    assert!(rt; gives(rt.alloc(), text, |params| has_marked_lines(params)));
     Ok(())
+}
+
+fn fault(alloc: Global, bytes: &[u8]) -> Option<ParamFault> {
+    read(alloc, bytes).err()
+}
+
+/// Whether this is the first fault of the file.
+fn is_first(alloc: Global, bytes: &[u8], first: ParamFault) -> bool {
+    fault(alloc, bytes) == Some(first)
 }
 
 #[test]
@@ -182,7 +244,7 @@ fn names_the_first_fault(rt: HostRuntime) -> Result<(), Fail> {
         ("CLUMPTYPE none", ParamFault::BadValue(Key::ClumpType)),
     ];
     for (text, first) in rows {
-        assert_eq!(rt; fault(rt.alloc(), text.as_bytes()), Some(first), "{text}");
+        assert!(rt; is_first(rt.alloc(), text.as_bytes(), first), "{text}");
     }
     Ok(())
 }
@@ -214,13 +276,13 @@ fn names_what_is_missing_and_what_does_not_fit_together(rt: HostRuntime) -> Resu
         ),
     ];
     for (text, first) in rows {
-        assert_eq!(rt; fault(rt.alloc(), text.as_bytes()), Some(first), "{text}");
+        assert!(rt; is_first(rt.alloc(), text.as_bytes(), first), "{text}");
     }
     for text in [
         "PUNAME u\nNUMREPS 100\nNUMITNS 10000000\nSTARTTEMP -1e9999\nCOOLFAC 2",
         "PUNAME u\nNUMREPS 20\nNUMITNS 10000000\nSAVETURNS 3\nCLUMPTYPE -0",
     ] {
-        assert_eq!(rt; fault(rt.alloc(), text.as_bytes()), None, "{text}");
+        assert!(rt; fault(rt.alloc(), text.as_bytes()).is_none(), "{text}");
     }
     Ok(())
 }
@@ -228,15 +290,9 @@ fn names_what_is_missing_and_what_does_not_fit_together(rt: HostRuntime) -> Resu
 #[test]
 fn reads_any_bytes(rt: HostRuntime) -> Result<(), Fail> {
     let text = b"VERSION \xFF\nPUNAME \xFF";
-    assert_eq!(rt;
-        fault(rt.alloc(), text),
-        Some(ParamFault::BadValue(Key::PuName))
-    );
+    assert!(rt; is_first(rt.alloc(), text, ParamFault::BadValue(Key::PuName)));
     let letters = vec![in rt.alloc(); b'p'; 1_000_000]?;
-    assert_eq!(rt;
-        fault(rt.alloc(), &letters),
-        Some(ParamFault::Missing(Key::PuName))
-    );
+    assert!(rt; is_first(rt.alloc(), &letters, ParamFault::Missing(Key::PuName)));
     Ok(())
 }
 

@@ -1,6 +1,7 @@
 //! The plain project of three units, run whole over shelves in memory.
 use crate::left::{Left, left_by, left_on, shelf_with};
-use mz_run::{Finished, InputFault, Status, code, marzone, prepare};
+use mz_num::NoMemory;
+use mz_run::{Finished, InputFault, Job, Status, code, marzone, prepare};
 use mz_shelf::{MemShelf, SafeShelf, Shelf};
 use std::alloc::{AllocError, Global};
 use std::test::Fail;
@@ -109,7 +110,18 @@ pub(crate) fn run(
     words: &[String],
     shelf: &mut impl Shelf,
 ) -> Result<Outcome, AllocError> {
-    seen(alloc, &marzone(alloc, words, 0, shelf))
+    let finished = finished(alloc, words, shelf);
+    seen(alloc, &finished)
+}
+
+// Without a clause a run and a job are any to the tests' proofs.
+
+fn finished(alloc: Global, words: &[String], shelf: &mut impl Shelf) -> Finished {
+    marzone(alloc, words, 0, shelf)
+}
+
+fn job_of(alloc: Global, words: &[String], shelf: &mut MemShelf) -> Result<Job, Status> {
+    prepare(alloc, words, 0, shelf)
 }
 
 /// The run of the project by one worker.
@@ -159,22 +171,35 @@ fn a_start_that_is_not_given_is_found(rt: HostRuntime) -> Result<(), Fail> {
 
 /// A shelf whose calls never fail, with the two files of the project.
 fn safe_project(alloc: Global) -> Result<SafeShelf, Fail> {
-    let mut shelf = SafeShelf::new(alloc)?;
+    let mut shelf = empty_safe_shelf(alloc)?;
+    put_project(alloc, &mut shelf)?;
+    Ok(shelf)
+}
+
+fn empty_safe_shelf(alloc: Global) -> Result<SafeShelf, NoMemory> {
+    SafeShelf::new(alloc)
+}
+
+fn put_project(alloc: Global, shelf: &mut SafeShelf) -> Result<(), Fail> {
     for (name, bytes) in [("input.dat", INPUT), ("pu.dat", UNITS)] {
         shelf.put(alloc, name, bytes)?;
     }
-    Ok(shelf)
+    Ok(())
 }
 
 /// Whether a run over such a shelf ends well, and says and writes what it is to.
 fn is_run_safely(alloc: Global) -> Result<bool, Fail> {
     let mut shelf = safe_project(alloc)?;
-    let outcome = run_plain(alloc, &mut shelf)?;
-    let is_best = match shelf.file("output_best.csv") {
-        Some(best) => best == BEST,
+    let code = run_plain(alloc, &mut shelf)?.code;
+    Ok(code == 0 && is_whole(&shelf))
+}
+
+/// Whether the best file and what was said are those of the plain project.
+fn is_whole(shelf: &SafeShelf) -> bool {
+    match shelf.file("output_best.csv") {
+        Some(best) => best == BEST && shelf.said() == SAID,
         None => false,
-    };
-    Ok(outcome.code == 0 && is_best && shelf.said() == SAID)
+    }
 }
 
 #[test]
@@ -290,21 +315,34 @@ fn a_refusal_of_a_fault_may_fail_itself(rt: HostRuntime) -> Result<(), Fail> {
 /// What is prepared of the project: its units, seed and workers, and how much is said.
 fn prepared(alloc: Global) -> Result<Option<(u32, u64, u8, usize)>, Fail> {
     let mut shelf = project(alloc, &[], 0)?;
-    let prepared = job_numbers(alloc, &mut shelf)?;
+    let numbers = ask_job(
+        alloc,
+        &mut shelf,
+        |job| (job.problem.units(), job.seed, job.workers),
+    )?;
     let said = shelf.said().len();
-    match prepared {
-        Some((units, seed, workers)) => Ok(Some((units, seed, workers, said))),
-        None => Ok(None),
-    }
+    Ok(numbers.map(|(units, seed, workers)| (units, seed, workers, said)))
 }
 
-fn job_numbers(
+/// What `look` tells of the job that a shelf gives to one worker; none where it gives none.
+pub(crate) fn ask_job<T, F: Fn(&Job) -> T + Drop>(
     alloc: Global,
-    shelf: &mut impl Shelf,
-) -> Result<Option<(u32, u64, u8)>, AllocError> {
-    match prepare(alloc, &words(alloc, "input.dat", "1")?, 0, shelf) {
-        Ok(job) => Ok(Some((job.problem.units(), job.seed, job.workers))),
-        Err(_) => Ok(None),
+    shelf: &mut MemShelf,
+    look: F,
+) -> Result<Option<T>, AllocError>
+    requires { F.IsAlwaysCallable look }
+{
+    let words = words(alloc, "input.dat", "1")?;
+    let job = job_of(alloc, &words, shelf);
+    Ok(told(&job, look))
+}
+
+fn told<T, F: Fn(&Job) -> T + Drop>(job: &Result<Job, Status>, look: F) -> Option<T>
+    requires { F.IsAlwaysCallable look }
+{
+    match job {
+        Ok(job) => Some(look(job)),
+        Err(_) => None,
     }
 }
 

@@ -36,9 +36,18 @@ const FILES: [(&str, &[u8]); 4] = [
 /// the place of its own.
 fn project(alloc: Global, lines: &str, files: &[(&str, &[u8])]) -> Result<Left, Fail> {
     let mut shelf = shelf_with(alloc, Vec::new(alloc), 0, &FILES)?;
-    put_input(alloc, &mut shelf, lines)?;
-    put_files(alloc, &mut shelf, files)?;
+    fill(alloc, &mut shelf, lines, files)?;
     left_on(alloc, &mut shelf, "output_best.csv")
+}
+
+fn fill(
+    alloc: Global,
+    shelf: &mut MemShelf,
+    lines: &str,
+    files: &[(&str, &[u8])],
+) -> Result<(), Fail> {
+    put_input(alloc, shelf, lines)?;
+    put_files(alloc, shelf, files)
 }
 
 /// Puts the parameter file, with these further lines.

@@ -17,7 +17,11 @@ fn run_words(alloc: Global, words: &[&str], shelf: &mut MemShelf) -> Result<Outc
 /// all that is said.
 fn have_no_form(alloc: Global, words: &[&str]) -> Result<bool, Fail> {
     let mut shelf = project(alloc, &[1], 0)?;
-    let outcome = run_words(alloc, words, &mut shelf)?;
+    are_refused(alloc, words, &mut shelf)
+}
+
+fn are_refused(alloc: Global, words: &[&str], shelf: &mut MemShelf) -> Result<bool, Fail> {
+    let outcome = run_words(alloc, words, shelf)?;
     Ok(
         outcome.code == 1
             && !outcome.has_job

@@ -1,5 +1,5 @@
 //! Why projects are refused.
-use super::{UNITS, has_bad_row, is_above, is_refused, is_taken, read, shelf_of};
+use super::{Reading, UNITS, ask, has_bad_row, is_above, is_refused, is_taken};
 use mz_num::NumFault;
 use mz_params::{Key, ParamFault};
 use mz_project::{InputFault, ReadFault, What, Which};
@@ -362,10 +362,13 @@ fn costs_in_the_dearest_zones_have_a_limit(rt: HostRuntime) -> Result<(), Fail> 
 
 /// Whether a project with these lines names a file of this name that isn't there.
 fn misses(alloc: Global, lines: &str, name: &str) -> Result<bool, Fail> {
-    let mut shelf = shelf_of(alloc, lines, &[UNITS])?;
-    match read(alloc, &mut shelf) {
-        Err(ReadFault::Absent(missing)) => Ok(missing.as_str() == name),
-        _ => Ok(false),
+    ask(alloc, lines, &[UNITS], |reading| is_absent(reading, name))
+}
+
+fn is_absent(reading: &Reading, name: &str) -> bool {
+    match reading {
+        Err(ReadFault::Absent(missing)) => missing.as_str() == name,
+        _ => false,
     }
 }
 

@@ -1,5 +1,5 @@
 //! What accepted projects are.
-use super::{UNITS, read, shelf_of};
+use super::{Reading, UNITS, ask};
 use mz_model::Problem;
 use std::alloc::Global;
 use std::test::Fail;
@@ -12,14 +12,15 @@ fn term_of(
     unit: u32,
     zone: u8,
 ) -> Result<Option<u64>, Fail> {
-    let mut shelf = shelf_of(alloc, lines, files)?;
-    let Ok(problem) = read(alloc, &mut shelf) else {
-        return Ok(None);
-    };
-    if unit < problem.units() && zone < problem.zones() {
-        Ok(Some(problem.cost_of(unit, zone)))
-    } else {
-        Ok(None)
+    ask(alloc, lines, files, |reading| term_in(reading, unit, zone))
+}
+
+fn term_in(reading: &Reading, unit: u32, zone: u8) -> Option<u64> {
+    match reading {
+        Ok(problem) if unit < problem.units() && zone < problem.zones() => {
+            Some(problem.cost_of(unit, zone))
+        }
+        _ => None,
     }
 }
 
@@ -65,10 +66,13 @@ fn counts(
     lines: &str,
     files: &[(&str, &str)],
 ) -> Result<Option<(u32, usize)>, Fail> {
-    let mut shelf = shelf_of(alloc, lines, files)?;
-    match read(alloc, &mut shelf) {
-        Ok(problem) => Ok(Some((problem.units(), problem.free().len()))),
-        Err(_) => Ok(None),
+    ask(alloc, lines, files, |reading| counts_in(reading))
+}
+
+fn counts_in(reading: &Reading) -> Option<(u32, usize)> {
+    match reading {
+        Ok(problem) => Some((problem.units(), problem.free().len())),
+        Err(_) => None,
     }
 }
 
@@ -96,11 +100,11 @@ fn a_project_may_have_no_units(rt: HostRuntime) -> Result<(), Fail> {
 
 /// How many neighbours the first unit has, and the length to the first of them, in ten-thousandths.
 fn neighbours_of_first(alloc: Global, bounds: &str) -> Result<Option<(usize, u64)>, Fail> {
-    let mut shelf = shelf_of(alloc, "BOUNDNAME b", &[UNITS, ("b", bounds)])?;
-    match read(alloc, &mut shelf) {
-        Ok(problem) => Ok(first_length(&problem)),
-        Err(_) => Ok(None),
-    }
+    let files = [UNITS, ("b", bounds)];
+    ask(alloc, "BOUNDNAME b", &files, |reading| match reading {
+        Ok(problem) => first_length(problem),
+        Err(_) => None,
+    })
 }
 
 fn first_length(problem: &Problem) -> Option<(usize, u64)> {

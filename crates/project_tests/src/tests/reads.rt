@@ -1,5 +1,5 @@
 //! Which files are read, and in which order: where call number `call` fails, the name is that of its file.
-use super::{UNITS, read, shelf_that_fails};
+use super::{Reading, UNITS, ask_failing};
 use mz_project::ReadFault;
 use std::alloc::Global;
 use std::test::Fail;
@@ -16,18 +16,34 @@ PULOCKNAME l
 BOUNDNAME b
 ZONEBOUNDCOSTNAME k";
 
-/// The name of the file whose read fails where that call does; `none` where every call is done.
-fn read_by(alloc: Global, lines: &str, files: &[(&str, &str)], call: u64) -> Result<String, Fail> {
-    let mut shelf = shelf_that_fails(alloc, vec![in alloc; call]?, lines, files)?;
-    match read(alloc, &mut shelf) {
-        Err(ReadFault::Shelf(name)) => Ok(name.into_string()),
-        Ok(_) => Ok(String::from_str(alloc, "none")?),
-        Err(_) => Ok(String::from_str(alloc, "refused")?),
+/// Whether the read of the file of that name fails where that call does; `none` is where every call is done.
+fn reads(
+    alloc: Global,
+    lines: &str,
+    files: &[(&str, &str)],
+    call: u64,
+    name: &str,
+) -> Result<bool, Fail> {
+    let fails = vec![in alloc; call]?;
+    ask_failing(
+        alloc,
+        fails,
+        lines,
+        files,
+        |reading| fails_on(reading, name),
+    )
+}
+
+fn fails_on(reading: &Reading, name: &str) -> bool {
+    match reading {
+        Err(ReadFault::Shelf(found)) => found.as_str() == name,
+        Err(_) => false,
+        Ok(_) => name == "none",
     }
 }
 
-/// The name of the file whose read fails in a project that gives every file.
-fn read_of_every(alloc: Global, call: u64) -> Result<String, Fail> {
+/// The same in a project that gives every file.
+fn reads_every(alloc: Global, call: u64, name: &str) -> Result<bool, Fail> {
     let files = [
         ("z", "id,name\n1,a\n2,b\n"),
         ("c", "costid,costname\n1,cost\n"),
@@ -42,7 +58,7 @@ fn read_of_every(alloc: Global, call: u64) -> Result<String, Fail> {
         ("b", "id1,id2,boundary\n1,1,2\n"),
         ("k", "zoneid1,zoneid2,cost\n1,2,1\n"),
     ];
-    read_by(alloc, EVERY_FILE, &files, call)
+    reads(alloc, EVERY_FILE, &files, call, name)
 }
 
 #[test]
@@ -64,8 +80,7 @@ fn each_given_file_is_read_once_and_in_order(rt: HostRuntime) -> Result<(), Fail
         "none",
     ];
     for (call, name) in names.iter().enumerate() {
-        let found = read_of_every(rt.alloc(), call as u64)?;
-        assert_eq!(rt; found.as_str(), *name);
+        assert!(rt; reads_every(rt.alloc(), call as u64, name)?, "{name}");
     }
     Ok(())
 }
@@ -74,8 +89,10 @@ fn each_given_file_is_read_once_and_in_order(rt: HostRuntime) -> Result<(), Fail
 fn a_file_that_is_not_given_is_not_read(rt: HostRuntime) -> Result<(), Fail> {
     let names = ["input.dat", "pu.dat", "none"];
     for (call, name) in names.iter().enumerate() {
-        let found = read_by(rt.alloc(), "", &[UNITS], call as u64)?;
-        assert_eq!(rt; found.as_str(), *name);
+        assert!(rt;
+            reads(rt.alloc(), "", &[UNITS], call as u64, name)?,
+            "{name}"
+        );
     }
     Ok(())
 }

@@ -1,5 +1,5 @@
 //! The scores of plans of small projects, by zone places, in ten-thousandths.
-use super::{AMOUNTS, BOUNDS, FEATURES, UNITS, read, shelf_of};
+use super::{AMOUNTS, BOUNDS, FEATURES, UNITS, ask};
 use mz_model::{Plan, Problem, evaluate};
 use std::alloc::Global;
 use std::test::Fail;
@@ -15,11 +15,10 @@ fn score_of(
     files: &[(&str, &str)],
     zones: &[u8],
 ) -> Result<Option<(u128, u128, u128)>, Fail> {
-    let mut shelf = shelf_of(alloc, lines, files)?;
-    match read(alloc, &mut shelf) {
-        Ok(problem) => Ok(scored(alloc, &problem, zones)),
-        Err(_) => Ok(None),
-    }
+    ask(alloc, lines, files, |reading| match reading {
+        Ok(problem) => scored(alloc, problem, zones),
+        Err(_) => None,
+    })
 }
 
 fn scored(alloc: Global, problem: &Problem, zones: &[u8]) -> Option<(u128, u128, u128)> {

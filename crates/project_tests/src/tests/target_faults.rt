@@ -1,5 +1,5 @@
 //! Why files of features, amounts, contributions, zone targets and boundaries are refused.
-use super::{AMOUNTS, FEATURES, UNITS, fault_of, has_bad_row, read, shelf_of};
+use super::{AMOUNTS, FEATURES, Reading, UNITS, empty_shelf, fault_of, fill, has_bad_row, look_on};
 use mz_num::NumFault;
 use mz_project::{InputFault, Which};
 use mz_shelf::MemShelf;
@@ -329,16 +329,22 @@ fn zone_boundary_costs_are_refused(rt: HostRuntime) -> Result<(), Fail> {
 
 /// Whether the first feature of a project with this feature file has this name.
 fn has_name(alloc: Global, features: &[u8], name: &[u8]) -> Result<bool, Fail> {
-    let mut shelf = shelf_of(alloc, TARGETS, &[UNITS, AMOUNTS])?;
-    shelf.put(alloc, "feat.dat", features)?;
-    is_named(alloc, &mut shelf, name)
+    let mut shelf = empty_shelf(alloc, Vec::new(alloc))?;
+    fill_with(alloc, &mut shelf, features)?;
+    Ok(look_on(alloc, &mut shelf, |reading| is_named(reading, name)))
 }
 
-fn is_named(alloc: Global, shelf: &mut MemShelf, name: &[u8]) -> Result<bool, Fail> {
-    match read(alloc, shelf) {
-        Ok(problem) => Ok(problem.features() > 0 && problem.name(0) == name),
-        Err(_) => Ok(false),
+fn is_named(reading: &Reading, name: &[u8]) -> bool {
+    match reading {
+        Ok(problem) => problem.features() > 0 && problem.name(0) == name,
+        Err(_) => false,
     }
+}
+
+fn fill_with(alloc: Global, shelf: &mut MemShelf, features: &[u8]) -> Result<(), Fail> {
+    fill(alloc, shelf, TARGETS, &[UNITS, AMOUNTS])?;
+    shelf.put(alloc, "feat.dat", features)?;
+    Ok(())
 }
 
 #[test]
