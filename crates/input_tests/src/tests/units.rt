@@ -1,5 +1,6 @@
 //! The files of zones, costs, units, zone costs, zone sets and locks.
-ghost use Rattle.std.specs.Prelude.{◌≡◌, ◌≤◌, length, IfOk};
+ghost use Rattle.std.specs.Prelude.{◌+◌, ◌≡◌, ◌≤◌, length, IfOk};
+ghost use Rattle.std.specs.List.{All};
 ghost use Rattle.mz_units.specs.Named.{IsNamedList};
 ghost use Rattle.mz_units.specs.UnitRows.{IsUnitList};
 ghost use Rattle.mz_rows.specs.ByZone.{AreByZone};
@@ -14,29 +15,55 @@ use mz_units::{
 };
 use std::alloc::Global;
 
+fn zone_table(alloc: Global, bytes: &[u8]) -> Result<Table, Refusal>
+    ensures { IfOk result (λ table. All (λ row. length row ≡ 2) table) }
+{
+    let wants = wants_zones(alloc)?;
+    small_table(alloc, bytes, &wants)
+}
+
 fn zones_in(alloc: Global, bytes: &[u8]) -> Result<ZoneList, Refusal>
     ensures { IfOk result (λ zones. IsNamedList zones.ids zones.names) }
 {
-    let wants = wants_zones(alloc)?;
-    let table = small_table(alloc, bytes, &wants)?;
+    let table = zone_table(alloc, bytes)?;
     Ok(read_zones(alloc, &table)?)
+}
+
+fn cost_table(alloc: Global, bytes: &[u8]) -> Result<Table, Refusal>
+    ensures { IfOk result (λ table. All (λ row. length row ≡ 2) table) }
+{
+    let wants = wants_costs(alloc)?;
+    small_table(alloc, bytes, &wants)
 }
 
 fn costs_in(alloc: Global, bytes: &[u8]) -> Result<CostList, Refusal>
     ensures { IfOk result (λ costs. IsNamedList costs.ids costs.names) }
 {
-    let wants = wants_costs(alloc)?;
-    let table = small_table(alloc, bytes, &wants)?;
+    let table = cost_table(alloc, bytes)?;
     Ok(read_costs(alloc, &table)?)
 }
 
-fn units_in(alloc: Global, bytes: &[u8], costs: &CostList) -> Result<UnitList, Refusal>
-    requires costs { IsNamedList costs.now.ids costs.now.names }
-    ensures { IfOk result (IsUnitList (length costs.now.ids)) }
+fn unit_table(alloc: Global, bytes: &[u8], costs: &CostList) -> Result<Table, Refusal>
+    requires { IsNamedList costs.now.ids costs.now.names }
+    ensures { IfOk result (λ table. All (λ row. length row ≡ length costs.now.names + 1) table) }
 {
     let wants = wants_units(alloc, costs)?;
-    let table = small_table(alloc, bytes, &wants)?;
+    small_table(alloc, bytes, &wants)
+}
+
+fn units_in(alloc: Global, bytes: &[u8], costs: &CostList) -> Result<UnitList, Refusal>
+    requires { IsNamedList costs.now.ids costs.now.names }
+    ensures { IfOk result (IsUnitList (length costs.now.ids)) }
+{
+    let table = unit_table(alloc, bytes, costs)?;
     Ok(read_units(alloc, &table, costs)?)
+}
+
+fn zone_cost_table(alloc: Global, bytes: &[u8]) -> Result<Table, Refusal>
+    ensures { IfOk result (λ table. All (λ row. length row ≡ 3) table) }
+{
+    let wants = wants_zone_costs(alloc)?;
+    small_table(alloc, bytes, &wants)
 }
 
 fn multipliers_in(
@@ -49,18 +76,30 @@ fn multipliers_in(
     requires costs { length costs.now ≤ 60 }
     ensures { IfOk result (λ numbers. AreByZone (length zones.now) (length costs.now) numbers.items) }
 {
-    let wants = wants_zone_costs(alloc)?;
-    let table = small_table(alloc, bytes, &wants)?;
+    let table = zone_cost_table(alloc, bytes)?;
     Ok(read_zone_costs(alloc, &table, zones, costs)?)
 }
 
-fn sets_in(alloc: Global, bytes: &[u8], units: &Ids, zones: &Ids) -> Result<Vec<u64>, Refusal>
-    requires zones { length zones.now ≤ 60 }
-    ensures { IfOk result (λ sets. length sets.items ≡ length units.now) }
+fn zone_set_table(alloc: Global, bytes: &[u8]) -> Result<Table, Refusal>
+    ensures { IfOk result (λ table. All (λ row. length row ≡ 2) table) }
 {
     let wants = wants_zone_sets(alloc)?;
-    let table = small_table(alloc, bytes, &wants)?;
+    small_table(alloc, bytes, &wants)
+}
+
+fn sets_in(alloc: Global, bytes: &[u8], units: &Ids, zones: &Ids) -> Result<Vec<u64>, Refusal>
+    requires { length zones.now ≤ 60 }
+    ensures { IfOk result (λ sets. length sets.items ≡ length units.now) }
+{
+    let table = zone_set_table(alloc, bytes)?;
     Ok(read_zone_sets(alloc, &table, units, zones)?)
+}
+
+fn lock_table(alloc: Global, bytes: &[u8]) -> Result<Table, Refusal>
+    ensures { IfOk result (λ table. All (λ row. length row ≡ 2) table) }
+{
+    let wants = wants_locks(alloc)?;
+    small_table(alloc, bytes, &wants)
 }
 
 fn locked_in(
@@ -73,8 +112,7 @@ fn locked_in(
     requires zones { length zones.now ≤ 60 }
     requires allowed { length allowed.now ≡ length units.now }
 {
-    let wants = wants_locks(alloc)?;
-    let table = small_table(alloc, bytes, &wants)?;
+    let table = lock_table(alloc, bytes)?;
     Ok(read_locks(alloc, &table, units, zones, allowed)?)
 }
 
