@@ -1,92 +1,98 @@
 //! The fields of rows, and numbers by zone.
-ghost use Rattle.std.specs.Prelude.{◌≡◌, ◌≤◌, length, IfOk};
+ghost use Rattle.std.specs.Prelude.{◌≡◌, length, IfOk};
 ghost use Rattle.std.specs.List.{All};
 
+use super::{Refusal, is_given, small_table, two_ids};
 use mz_num::{NoMemory, NumFault};
 use mz_rows::{id_at, mic6_at, place_at, read_by_zone, ten4_at, text_at};
 use mz_tables::{Ids, RowFault, Table, Wants};
 use std::alloc::Global;
-use std::test::Fail;
 
-/// A table of the one column `x`.
-fn table_of(alloc: Global, bytes: &[u8]) -> Result<Table, NoMemory>
-    requires { length bytes.now ≤ 1000 }
-    ensures { IfOk result (λ table. All (λ row. length row ≡ 1) table) }
+/// The one column `x`.
+fn one_column(alloc: Global) -> Result<Wants, NoMemory>
+    ensures { IfOk result (λ wants. length wants ≡ 1) }
 {
     let mut wants = Wants::new(alloc)?;
     wants.add(alloc, b"x", b"", false)?;
-    match Table::read(alloc, bytes, &wants) {
-        Ok(table) => Ok(table),
-        Err(_) => Err(NoMemory),
-    }
+    Ok(wants)
 }
 
-/// A table of the columns `z`, `x` and `n`.
-fn pairs_of(alloc: Global, bytes: &[u8]) -> Result<Table, NoMemory>
-    requires { length bytes.now ≤ 1000 }
-    ensures { IfOk result (λ table. All (λ row. length row ≡ 3) table) }
+/// The columns `z`, `x` and `n`.
+fn three_columns(alloc: Global) -> Result<Wants, NoMemory>
+    ensures { IfOk result (λ wants. length wants ≡ 3) }
 {
     let mut wants = Wants::new(alloc)?;
     wants.add(alloc, b"z", b"", true)?;
     wants.add(alloc, b"x", b"", true)?;
     wants.add(alloc, b"n", b"", true)?;
-    match Table::read(alloc, bytes, &wants) {
-        Ok(table) => Ok(table),
-        Err(_) => Err(NoMemory),
-    }
+    Ok(wants)
 }
 
-fn two_ids(alloc: Global, first: u32, second: u32) -> Result<Ids, NoMemory>
-    ensures { IfOk result (λ ids. length ids ≤ 60) }
+fn single_table(alloc: Global, bytes: &[u8]) -> Result<Table, Refusal>
+    ensures { IfOk result (λ table. All (λ row. length row ≡ 1) table) }
 {
-    let mut ids = Ids::new(alloc)?;
-    ids.add(alloc, first)?;
-    ids.add(alloc, second)?;
-    Ok(ids)
+    let wants = one_column(alloc)?;
+    small_table(alloc, bytes, &wants)
 }
 
-/// The numbers of the zones 7 and 3 with the things 5 and 6, or the first fault.
-fn four_numbers(alloc: Global, bytes: &[u8]) -> Result<Result<[u64; 4], RowFault>, NoMemory>
-    requires { length bytes.now ≤ 1000 }
+fn pair_table(alloc: Global, bytes: &[u8]) -> Result<Table, Refusal>
+    ensures { IfOk result (λ table. All (λ row. length row ≡ 3) table) }
+{
+    let wants = three_columns(alloc)?;
+    small_table(alloc, bytes, &wants)
+}
+
+/// The numbers of the zones 7 and 3 with the things 5 and 6.
+fn numbers_of(alloc: Global, table: &Table) -> Result<Vec<u64>, Refusal>
+    requires { All (λ row. length row ≡ 3) table.now }
 {
     let zones = two_ids(alloc, 7, 3)?;
     let things = two_ids(alloc, 5, 6)?;
-    let table = pairs_of(alloc, bytes)?;
-    match read_by_zone(alloc, &table, &zones, &things) {
-        Ok(numbers) => match *numbers.as_slice() {
-            [a, b, c, d] => Ok(Ok([a, b, c, d])),
-            _ => Err(NoMemory),
-        },
-        Err(fault) => Ok(Err(fault)),
-    }
+    Ok(read_by_zone(alloc, table, &zones, &things)?)
 }
 
-/// What the first field reads as: a text's length, an id, ten-thousandths, millionths, and the place of
-/// an id among 7 and 3.
-fn first_field(
-    alloc: Global,
-    bytes: &[u8],
-) -> Result<Option<(usize, [Result<u64, RowFault>; 4])>, NoMemory>
-    requires { length bytes.now ≤ 1000 }
+fn numbers_in(alloc: Global, bytes: &[u8]) -> Result<Vec<u64>, Refusal> {
+    let table = pair_table(alloc, bytes)?;
+    numbers_of(alloc, &table)
+}
+
+/// The same numbers, if they are four.
+fn four_numbers(alloc: Global, bytes: &[u8]) -> Result<Option<[u64; 4]>, Refusal> {
+    let numbers = numbers_in(alloc, bytes)?;
+    Ok(match *numbers.as_slice() {
+        [a, b, c, d] => Some([a, b, c, d]),
+        _ => None,
+    })
+}
+
+/// What a field reads as: a text's length, an id, ten-thousandths, millionths, and the place of an id
+/// among 7 and 3.
+type Field = (usize, [Result<u64, RowFault>; 4]);
+
+/// The first field of the first row.
+fn field_of(table: &Table, ids: &Ids) -> Option<Field>
+    requires { All (λ row. length row ≡ 1) table.now }
 {
-    let mut ids = Ids::new(alloc)?;
-    ids.add(alloc, 7)?;
-    ids.add(alloc, 3)?;
-    let table = table_of(alloc, bytes)?;
     if table.rows() == 0 {
-        return Ok(None);
+        return None;
     }
-    let text = text_at(&table, 0, 0).len();
-    let id = id_at(&table, 0, 0).map(u64::from);
-    let place = place_at(&table, 0, 0, &ids).map(u64::from);
-    Ok(Some((
+    let text = text_at(table, 0, 0).len();
+    let id = id_at(table, 0, 0).map(u64::from);
+    let place = place_at(table, 0, 0, ids).map(u64::from);
+    Some((
         text,
-        [id, ten4_at(&table, 0, 0), mic6_at(&table, 0, 0), place],
-    )))
+        [id, ten4_at(table, 0, 0), mic6_at(table, 0, 0), place],
+    ))
+}
+
+fn first_field(alloc: Global, bytes: &[u8]) -> Result<Option<Field>, Refusal> {
+    let ids = two_ids(alloc, 7, 3)?;
+    let table = single_table(alloc, bytes)?;
+    Ok(field_of(&table, &ids))
 }
 
 #[test]
-fn fields_read_as_numbers(rt: HostRuntime) -> Result<(), Fail> {
+fn fields_read_as_numbers(rt: HostRuntime) {
     let bad = |fault| Err(RowFault::BadNumber(2, 0, fault));
     let table = [
         ("x\n3\n", 1, [Ok(3), Ok(30_000), Ok(3_000_000), Ok(1)]),
@@ -133,28 +139,34 @@ fn fields_read_as_numbers(rt: HostRuntime) -> Result<(), Fail> {
         ),
     ];
     for (bytes, text, numbers) in table {
-        let read = first_field(rt.alloc(), bytes.as_bytes())?;
-        assert!(rt; read == Some((text, numbers)), "{bytes}");
+        let read = first_field(rt.alloc(), bytes.as_bytes());
+        assert!(rt; is_given(read, Ok(Some((text, numbers)))), "{bytes}");
     }
-    Ok(())
 }
 
 #[test]
-fn numbers_stand_by_zone_and_thing(rt: HostRuntime) -> Result<(), Fail> {
+fn numbers_stand_by_zone_and_thing(rt: HostRuntime) {
     let table = [
-        ("z,x,n\n3,5,0.5\n7,6,2\n", Ok([0, 2_000_000, 500_000, 0])),
-        ("z,x,n\n3,5,1\n3,5,2\n", Err(RowFault::Repeated(3))),
-        ("z,x,n\n7,6,1\n5,6,1\n", Err(RowFault::Unknown(3, 0))),
-        ("z,x,n\n7,3,1\n", Err(RowFault::Unknown(2, 1))),
+        (
+            "z,x,n\n3,5,0.5\n7,6,2\n",
+            Ok(Some([0, 2_000_000, 500_000, 0])),
+        ),
+        (
+            "z,x,n\n3,5,1\n3,5,2\n",
+            Err(Refusal::Row(RowFault::Repeated(3))),
+        ),
+        (
+            "z,x,n\n7,6,1\n5,6,1\n",
+            Err(Refusal::Row(RowFault::Unknown(3, 0))),
+        ),
+        ("z,x,n\n7,3,1\n", Err(Refusal::Row(RowFault::Unknown(2, 1)))),
         (
             "z,x,n\n7,6,\n",
-            Err(RowFault::BadNumber(2, 2, NumFault::Empty)),
+            Err(Refusal::Row(RowFault::BadNumber(2, 2, NumFault::Empty))),
         ),
     ];
     for (bytes, numbers) in table {
-        assert!(rt; bytes.len() <= 1000);
-        let read = four_numbers(rt.alloc(), bytes.as_bytes())?;
-        assert!(rt; read == numbers, "{bytes}");
+        let read = four_numbers(rt.alloc(), bytes.as_bytes());
+        assert!(rt; is_given(read, numbers), "{bytes}");
     }
-    Ok(())
 }

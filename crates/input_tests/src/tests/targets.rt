@@ -1,58 +1,79 @@
 //! The files of amounts, contributions and zone targets, and the level of a target.
-ghost use Rattle.std.specs.Prelude.{◌≤◌, length, IfOk};
+ghost use Rattle.std.specs.Prelude.{◌≡◌, length, IfOk};
+ghost use Rattle.std.specs.List.{All};
 
-use super::Refusal;
-use mz_num::{NoMemory, NumFault};
-use mz_tables::{Ids, RowFault, Table};
+use super::{Refusal, is_given, small_table, three_ids};
+use mz_num::NumFault;
+use mz_tables::{RowFault, Table};
 use mz_targets::{
     ZoneTarget, level_of, read_amounts, read_contribs, read_zone_targets, wants_amounts,
     wants_contribs, wants_zone_targets,
 };
 use std::alloc::Global;
 
-/// The ids 1, 2 and 3.
-fn three_ids(alloc: Global) -> Result<Ids, NoMemory>
-    ensures { IfOk result (λ ids. length ids ≤ 3) }
-{
-    let mut ids = Ids::new(alloc)?;
-    ids.add(alloc, 1)?;
-    ids.add(alloc, 2)?;
-    ids.add(alloc, 3)?;
-    Ok(ids)
-}
-
-fn amounts_in(alloc: Global, bytes: &[u8], ids: &Ids) -> Result<Vec<(u32, u32, u128)>, Refusal>
-    requires { length bytes.now ≤ 1000 }
+fn amount_table(alloc: Global, bytes: &[u8]) -> Result<Table, Refusal>
+    ensures { IfOk result (λ table. All (λ row. length row ≡ 3) table) }
 {
     let wants = wants_amounts(alloc)?;
-    let table = Table::read(alloc, bytes, &wants)?;
-    Ok(read_amounts(alloc, &table, ids, ids)?)
+    small_table(alloc, bytes, &wants)
 }
 
-fn fractions_in(alloc: Global, bytes: &[u8], ids: &Ids) -> Result<Vec<u64>, Refusal>
-    requires small { length bytes.now ≤ 1000 }
-    requires few { length ids.now ≤ 3 }
+/// The amounts of three features in three units.
+fn amounts_of(alloc: Global, table: &Table) -> Result<Vec<(u32, u32, u128)>, Refusal>
+    requires { All (λ row. length row ≡ 3) table.now }
+{
+    let ids = three_ids(alloc)?;
+    Ok(read_amounts(alloc, table, &ids, &ids)?)
+}
+
+fn amounts_in(alloc: Global, bytes: &[u8]) -> Result<Vec<(u32, u32, u128)>, Refusal> {
+    let table = amount_table(alloc, bytes)?;
+    amounts_of(alloc, &table)
+}
+
+fn fraction_table(alloc: Global, bytes: &[u8]) -> Result<Table, Refusal>
+    ensures { IfOk result (λ table. All (λ row. length row ≡ 3) table) }
 {
     let wants = wants_contribs(alloc)?;
-    let table = Table::read(alloc, bytes, &wants)?;
-    Ok(read_contribs(alloc, &table, ids, ids)?)
+    small_table(alloc, bytes, &wants)
 }
 
-fn targets_in(alloc: Global, bytes: &[u8], ids: &Ids) -> Result<Vec<ZoneTarget>, Refusal>
-    requires small { length bytes.now ≤ 1000 }
-    requires few { length ids.now ≤ 3 }
+/// The fractions of three features in three zones.
+fn fractions_of(alloc: Global, table: &Table) -> Result<Vec<u64>, Refusal>
+    requires { All (λ row. length row ≡ 3) table.now }
+{
+    let ids = three_ids(alloc)?;
+    Ok(read_contribs(alloc, table, &ids, &ids)?)
+}
+
+fn fractions_in(alloc: Global, bytes: &[u8]) -> Result<Vec<u64>, Refusal> {
+    let table = fraction_table(alloc, bytes)?;
+    fractions_of(alloc, &table)
+}
+
+fn target_table(alloc: Global, bytes: &[u8]) -> Result<Table, Refusal>
+    ensures { IfOk result (λ table. All (λ row. length row ≡ 4) table) }
 {
     let wants = wants_zone_targets(alloc)?;
-    let table = Table::read(alloc, bytes, &wants)?;
-    Ok(read_zone_targets(alloc, &table, ids, ids)?)
+    small_table(alloc, bytes, &wants)
+}
+
+/// The targets of three features in three zones.
+fn targets_of(alloc: Global, table: &Table) -> Result<Vec<ZoneTarget>, Refusal>
+    requires { All (λ row. length row ≡ 4) table.now }
+{
+    let ids = three_ids(alloc)?;
+    Ok(read_zone_targets(alloc, table, &ids, &ids)?)
+}
+
+fn targets_in(alloc: Global, bytes: &[u8]) -> Result<Vec<ZoneTarget>, Refusal> {
+    let table = target_table(alloc, bytes)?;
+    targets_of(alloc, &table)
 }
 
 /// The sums of the three pairs that are listed.
-fn three_sums(alloc: Global, bytes: &[u8]) -> Result<Option<(u128, u128, u128)>, Refusal>
-    requires { length bytes.now ≤ 1000 }
-{
-    let ids = three_ids(alloc)?;
-    let amounts = amounts_in(alloc, bytes, &ids)?;
+fn three_sums(alloc: Global, bytes: &[u8]) -> Result<Option<(u128, u128, u128)>, Refusal> {
+    let amounts = amounts_in(alloc, bytes)?;
     Ok(match amounts.as_slice() {
         [first, second, third] => Some((first.2, second.2, third.2)),
         _ => None,
@@ -60,11 +81,8 @@ fn three_sums(alloc: Global, bytes: &[u8]) -> Result<Option<(u128, u128, u128)>,
 }
 
 /// The unit, the feature and the sum of the one pair that is listed.
-fn one_sum(alloc: Global, bytes: &[u8]) -> Result<Option<(u32, u32, u128)>, Refusal>
-    requires { length bytes.now ≤ 1000 }
-{
-    let ids = three_ids(alloc)?;
-    let amounts = amounts_in(alloc, bytes, &ids)?;
+fn one_sum(alloc: Global, bytes: &[u8]) -> Result<Option<(u32, u32, u128)>, Refusal> {
+    let amounts = amounts_in(alloc, bytes)?;
     Ok(match amounts.as_slice() {
         [sum] => Some(*sum),
         _ => None,
@@ -72,11 +90,8 @@ fn one_sum(alloc: Global, bytes: &[u8]) -> Result<Option<(u32, u32, u128)>, Refu
 }
 
 /// The fractions of the second of three features in three zones.
-fn three_fractions(alloc: Global, bytes: &[u8]) -> Result<Option<(u64, u64, u64)>, Refusal>
-    requires { length bytes.now ≤ 1000 }
-{
-    let ids = three_ids(alloc)?;
-    let fractions = fractions_in(alloc, bytes, &ids)?;
+fn three_fractions(alloc: Global, bytes: &[u8]) -> Result<Option<(u64, u64, u64)>, Refusal> {
+    let fractions = fractions_in(alloc, bytes)?;
     Ok(match fractions.as_slice() {
         [_, first, _, _, second, _, _, third, _] => Some((*first, *second, *third)),
         _ => None,
@@ -84,11 +99,8 @@ fn three_fractions(alloc: Global, bytes: &[u8]) -> Result<Option<(u64, u64, u64)
 }
 
 /// The zone, the feature, the value and the kind of the one zone target.
-fn one_target(alloc: Global, bytes: &[u8]) -> Result<Option<(u8, u32, u64, u8)>, Refusal>
-    requires { length bytes.now ≤ 1000 }
-{
-    let ids = three_ids(alloc)?;
-    let targets = targets_in(alloc, bytes, &ids)?;
+fn one_target(alloc: Global, bytes: &[u8]) -> Result<Option<(u8, u32, u64, u8)>, Refusal> {
+    let targets = targets_in(alloc, bytes)?;
     Ok(match targets.as_slice() {
         [target] => Some((target.zone, target.feature, target.value, target.kind)),
         _ => None,
@@ -116,8 +128,7 @@ fn reads_the_amounts_of_three_units(rt: HostRuntime) {
         ),
     ];
     for (bytes, answer) in rows {
-        assert!(rt; bytes.len() <= 1000);
-        assert_eq!(rt; three_sums(rt.alloc(), bytes), answer);
+        assert!(rt; is_given(three_sums(rt.alloc(), bytes), answer));
     }
 }
 
@@ -136,8 +147,7 @@ fn adds_the_amounts_of_a_pair(rt: HostRuntime) {
         (b"featureid,puid,amount\n", None),
     ];
     for (bytes, answer) in rows {
-        assert!(rt; bytes.len() <= 1000);
-        assert_eq!(rt; one_sum(rt.alloc(), bytes), Ok(answer));
+        assert!(rt; is_given(one_sum(rt.alloc(), bytes), Ok(answer)));
     }
 }
 
@@ -158,8 +168,7 @@ fn reads_contributions(rt: HostRuntime) {
         ),
     ];
     for (bytes, answer) in rows {
-        assert!(rt; bytes.len() <= 1000);
-        assert_eq!(rt; three_fractions(rt.alloc(), bytes), answer);
+        assert!(rt; is_given(three_fractions(rt.alloc(), bytes), answer));
     }
 }
 
@@ -181,8 +190,7 @@ fn scales_a_zone_target_by_its_type(rt: HostRuntime) {
         (b"zoneid,featureid,target\n1,3,2\n", Some((0, 2, 20000, 0))),
     ];
     for (bytes, answer) in rows {
-        assert!(rt; bytes.len() <= 1000);
-        assert_eq!(rt; one_target(rt.alloc(), bytes), Ok(answer));
+        assert!(rt; is_given(one_target(rt.alloc(), bytes), Ok(answer)));
     }
 }
 
@@ -211,8 +219,7 @@ fn tells_the_first_fault_of_zone_targets(rt: HostRuntime) {
         ),
     ];
     for (bytes, fault) in rows {
-        assert!(rt; bytes.len() <= 1000);
-        assert_eq!(rt; one_target(rt.alloc(), bytes), Err(Refusal::Row(fault)));
+        assert!(rt; is_given(one_target(rt.alloc(), bytes), Err(Refusal::Row(fault))));
     }
 }
 

@@ -1,10 +1,11 @@
 //! The files of zones, costs, units, zone costs, zone sets and locks.
-ghost use Rattle.std.specs.Prelude.{◌≡◌, ◌≤◌, length, IfOk};
+ghost use Rattle.std.specs.Prelude.{◌+◌, ◌≡◌, ◌≤◌, length, IfOk};
+ghost use Rattle.std.specs.List.{All};
 ghost use Rattle.mz_units.specs.Named.{IsNamedList};
 ghost use Rattle.mz_units.specs.UnitRows.{IsUnitList};
 ghost use Rattle.mz_rows.specs.ByZone.{AreByZone};
 
-use super::Refusal;
+use super::{Refusal, is_given, small_table};
 use mz_num::NumFault;
 use mz_tables::{Ids, RowFault, Table, TableFault};
 use mz_units::{
@@ -14,32 +15,55 @@ use mz_units::{
 };
 use std::alloc::Global;
 
-fn zones_in(alloc: Global, bytes: &[u8]) -> Result<ZoneList, Refusal>
-    requires { length bytes.now ≤ 1000 }
-    ensures { IfOk result (λ zones. IsNamedList zones.ids zones.names) }
+fn zone_table(alloc: Global, bytes: &[u8]) -> Result<Table, Refusal>
+    ensures { IfOk result (λ table. All (λ row. length row ≡ 2) table) }
 {
     let wants = wants_zones(alloc)?;
-    let table = Table::read(alloc, bytes, &wants)?;
+    small_table(alloc, bytes, &wants)
+}
+
+fn zones_in(alloc: Global, bytes: &[u8]) -> Result<ZoneList, Refusal>
+    ensures { IfOk result (λ zones. IsNamedList zones.ids zones.names) }
+{
+    let table = zone_table(alloc, bytes)?;
     Ok(read_zones(alloc, &table)?)
 }
 
-fn costs_in(alloc: Global, bytes: &[u8]) -> Result<CostList, Refusal>
-    requires { length bytes.now ≤ 1000 }
-    ensures { IfOk result (λ costs. IsNamedList costs.ids costs.names) }
+fn cost_table(alloc: Global, bytes: &[u8]) -> Result<Table, Refusal>
+    ensures { IfOk result (λ table. All (λ row. length row ≡ 2) table) }
 {
     let wants = wants_costs(alloc)?;
-    let table = Table::read(alloc, bytes, &wants)?;
+    small_table(alloc, bytes, &wants)
+}
+
+fn costs_in(alloc: Global, bytes: &[u8]) -> Result<CostList, Refusal>
+    ensures { IfOk result (λ costs. IsNamedList costs.ids costs.names) }
+{
+    let table = cost_table(alloc, bytes)?;
     Ok(read_costs(alloc, &table)?)
 }
 
-fn units_in(alloc: Global, bytes: &[u8], costs: &CostList) -> Result<UnitList, Refusal>
-    requires small { length bytes.now ≤ 1000 }
-    requires costs { IsNamedList costs.now.ids costs.now.names }
-    ensures { IfOk result (IsUnitList (length costs.now.ids)) }
+fn unit_table(alloc: Global, bytes: &[u8], costs: &CostList) -> Result<Table, Refusal>
+    requires { IsNamedList costs.now.ids costs.now.names }
+    ensures { IfOk result (λ table. All (λ row. length row ≡ length costs.now.names + 1) table) }
 {
     let wants = wants_units(alloc, costs)?;
-    let table = Table::read(alloc, bytes, &wants)?;
+    small_table(alloc, bytes, &wants)
+}
+
+fn units_in(alloc: Global, bytes: &[u8], costs: &CostList) -> Result<UnitList, Refusal>
+    requires { IsNamedList costs.now.ids costs.now.names }
+    ensures { IfOk result (IsUnitList (length costs.now.ids)) }
+{
+    let table = unit_table(alloc, bytes, costs)?;
     Ok(read_units(alloc, &table, costs)?)
+}
+
+fn zone_cost_table(alloc: Global, bytes: &[u8]) -> Result<Table, Refusal>
+    ensures { IfOk result (λ table. All (λ row. length row ≡ 3) table) }
+{
+    let wants = wants_zone_costs(alloc)?;
+    small_table(alloc, bytes, &wants)
 }
 
 fn multipliers_in(
@@ -48,24 +72,34 @@ fn multipliers_in(
     zones: &Ids,
     costs: &Ids,
 ) -> Result<Vec<u64>, Refusal>
-    requires small { length bytes.now ≤ 1000 }
     requires zones { length zones.now ≤ 60 }
     requires costs { length costs.now ≤ 60 }
     ensures { IfOk result (λ numbers. AreByZone (length zones.now) (length costs.now) numbers.items) }
 {
-    let wants = wants_zone_costs(alloc)?;
-    let table = Table::read(alloc, bytes, &wants)?;
+    let table = zone_cost_table(alloc, bytes)?;
     Ok(read_zone_costs(alloc, &table, zones, costs)?)
 }
 
-fn sets_in(alloc: Global, bytes: &[u8], units: &Ids, zones: &Ids) -> Result<Vec<u64>, Refusal>
-    requires small { length bytes.now ≤ 1000 }
-    requires zones { length zones.now ≤ 60 }
-    ensures { IfOk result (λ sets. length sets.items ≡ length units.now) }
+fn zone_set_table(alloc: Global, bytes: &[u8]) -> Result<Table, Refusal>
+    ensures { IfOk result (λ table. All (λ row. length row ≡ 2) table) }
 {
     let wants = wants_zone_sets(alloc)?;
-    let table = Table::read(alloc, bytes, &wants)?;
+    small_table(alloc, bytes, &wants)
+}
+
+fn sets_in(alloc: Global, bytes: &[u8], units: &Ids, zones: &Ids) -> Result<Vec<u64>, Refusal>
+    requires { length zones.now ≤ 60 }
+    ensures { IfOk result (λ sets. length sets.items ≡ length units.now) }
+{
+    let table = zone_set_table(alloc, bytes)?;
     Ok(read_zone_sets(alloc, &table, units, zones)?)
+}
+
+fn lock_table(alloc: Global, bytes: &[u8]) -> Result<Table, Refusal>
+    ensures { IfOk result (λ table. All (λ row. length row ≡ 2) table) }
+{
+    let wants = wants_locks(alloc)?;
+    small_table(alloc, bytes, &wants)
 }
 
 fn locked_in(
@@ -75,43 +109,84 @@ fn locked_in(
     zones: &Ids,
     allowed: &[u64],
 ) -> Result<Vec<u64>, Refusal>
-    requires small { length bytes.now ≤ 1000 }
     requires zones { length zones.now ≤ 60 }
     requires allowed { length allowed.now ≡ length units.now }
 {
-    let wants = wants_locks(alloc)?;
-    let table = Table::read(alloc, bytes, &wants)?;
+    let table = lock_table(alloc, bytes)?;
     Ok(read_locks(alloc, &table, units, zones, allowed)?)
 }
 
 /// How many zones there are.
-fn zone_count(alloc: Global, bytes: &[u8]) -> Result<u32, Refusal>
-    requires { length bytes.now ≤ 1000 }
-{
+fn zone_count(alloc: Global, bytes: &[u8]) -> Result<u32, Refusal> {
     Ok(zones_in(alloc, bytes)?.ids.len())
 }
 
-/// How many units there are, where they have two costs.
-fn unit_count(alloc: Global, bytes: &[u8]) -> Result<u32, Refusal>
-    requires { length bytes.now ≤ 1000 }
+/// The two costs `cost` and `hire`.
+fn two_costs(alloc: Global) -> Result<CostList, Refusal>
+    ensures { IfOk result (λ costs. IsNamedList costs.ids costs.names) }
 {
-    let costs = costs_in(alloc, b"costid,costname\n1,cost\n2,hire\n")?;
+    costs_in(alloc, b"costid,costname\n1,cost\n2,hire\n")
+}
+
+/// How many units there are, where they have two costs.
+fn unit_count(alloc: Global, bytes: &[u8]) -> Result<u32, Refusal> {
+    let costs = two_costs(alloc)?;
     Ok(units_in(alloc, bytes, &costs)?.ids.len())
 }
 
-/// The terms of a unit with the costs 10 and 4, in two zones.
-fn two_terms(alloc: Global, zone_costs: &[u8]) -> Result<Option<(u128, u128)>, Refusal>
-    requires { length zone_costs.now ≤ 1000 }
-{
-    let zones = zones_in(alloc, b"id,name\n1,available\n2,reserved\n")?;
-    let costs = costs_in(alloc, b"id,name\n1,cost\n2,hire\n")?;
-    let units = units_in(alloc, b"id,cost,hire\n1,10,4\n", &costs)?;
-    let multipliers = multipliers_in(alloc, zone_costs, &zones.ids, &costs.ids)?;
-    let terms = cost_terms(alloc, &units, &multipliers, zones.ids.len() as u8)?;
-    Ok(match terms.as_slice() {
+fn first_two(terms: &[u128]) -> Option<(u128, u128)> {
+    match terms {
         [first, second] => Some((*first, *second)),
         _ => None,
-    })
+    }
+}
+
+/// The terms of a unit with the costs 10 and 4.
+fn terms_of(
+    alloc: Global,
+    zone_costs: &[u8],
+    zones: &Ids,
+    costs: &CostList,
+) -> Result<Option<(u128, u128)>, Refusal>
+    requires zones { length zones.now ≤ 60 }
+    requires costs { IsNamedList costs.now.ids costs.now.names }
+{
+    let units = units_in(alloc, b"id,cost,hire\n1,10,4\n", costs)?;
+    let multipliers = multipliers_in(alloc, zone_costs, zones, &costs.ids)?;
+    let terms = cost_terms(alloc, &units, &multipliers, zones.len() as u8)?;
+    Ok(first_two(&terms))
+}
+
+/// The same in two zones.
+fn two_terms(alloc: Global, zone_costs: &[u8]) -> Result<Option<(u128, u128)>, Refusal> {
+    let zones = zones_in(alloc, b"id,name\n1,available\n2,reserved\n")?;
+    let costs = two_costs(alloc)?;
+    terms_of(alloc, zone_costs, &zones.ids, &costs)
+}
+
+/// The units 1, 2 and 3.
+fn three_units(alloc: Global) -> Result<UnitList, Refusal> {
+    let costs = costs_in(alloc, b"id,name\n1,cost\n")?;
+    units_in(alloc, b"id,cost\n1,10\n2,20\n3,30\n", &costs)
+}
+
+fn sets_and_locks_in(
+    alloc: Global,
+    zone_sets: &[u8],
+    locks: &[u8],
+    units: &Ids,
+    zones: &Ids,
+) -> Result<Vec<u64>, Refusal>
+    requires { length zones.now ≤ 60 }
+{
+    let sets = sets_in(alloc, zone_sets, units, zones)?;
+    locked_in(alloc, locks, units, zones, &sets)
+}
+
+fn limited_units(alloc: Global, zone_sets: &[u8], locks: &[u8]) -> Result<Vec<u64>, Refusal> {
+    let zones = zones_in(alloc, b"id\n1\n2\n")?;
+    let units = three_units(alloc)?;
+    sets_and_locks_in(alloc, zone_sets, locks, &units.ids, &zones.ids)
 }
 
 /// The zones that three units may have, of two zones.
@@ -119,15 +194,8 @@ fn three_sets(
     alloc: Global,
     zone_sets: &[u8],
     locks: &[u8],
-) -> Result<Option<(u64, u64, u64)>, Refusal>
-    requires zone_sets { length zone_sets.now ≤ 1000 }
-    requires locks { length locks.now ≤ 1000 }
-{
-    let zones = zones_in(alloc, b"id\n1\n2\n")?;
-    let costs = costs_in(alloc, b"id,name\n1,cost\n")?;
-    let units = units_in(alloc, b"id,cost\n1,10\n2,20\n3,30\n", &costs)?;
-    let sets = sets_in(alloc, zone_sets, &units.ids, &zones.ids)?;
-    let sets = locked_in(alloc, locks, &units.ids, &zones.ids, &sets)?;
+) -> Result<Option<(u64, u64, u64)>, Refusal> {
+    let sets = limited_units(alloc, zone_sets, locks)?;
     Ok(match sets.as_slice() {
         [first, second, third] => Some((*first, *second, *third)),
         _ => None,
@@ -153,8 +221,7 @@ fn tells_the_first_fault_of_zones(rt: HostRuntime) {
         (ZONES_61, Err(Refusal::Row(RowFault::TooMany(62)))),
     ];
     for (bytes, answer) in rows {
-        assert!(rt; bytes.len() <= 1000);
-        assert_eq!(rt; zone_count(rt.alloc(), bytes), answer);
+        assert!(rt; is_given(zone_count(rt.alloc(), bytes), answer));
     }
 }
 
@@ -177,8 +244,7 @@ fn tells_the_first_fault_of_units(rt: HostRuntime) {
         ),
     ];
     for (bytes, answer) in rows {
-        assert!(rt; bytes.len() <= 1000);
-        assert_eq!(rt; unit_count(rt.alloc(), bytes), answer);
+        assert!(rt; is_given(unit_count(rt.alloc(), bytes), answer));
     }
 }
 
@@ -208,8 +274,7 @@ fn multiplies_and_rounds_the_costs(rt: HostRuntime) {
         ),
     ];
     for (bytes, answer) in rows {
-        assert!(rt; bytes.len() <= 1000);
-        assert_eq!(rt; two_terms(rt.alloc(), bytes), answer);
+        assert!(rt; is_given(two_terms(rt.alloc(), bytes), answer));
     }
 }
 
@@ -251,8 +316,7 @@ fn limits_units_to_zones(rt: HostRuntime) {
         ),
     ];
     for (zone_sets, locks, answer) in rows {
-        assert!(rt; zone_sets.len() <= 1000);
-        assert!(rt; locks.len() <= 1000);
-        assert_eq!(rt; three_sets(rt.alloc(), zone_sets, locks), answer);
+        let sets = three_sets(rt.alloc(), zone_sets, locks);
+        assert!(rt; is_given(sets, answer));
     }
 }
