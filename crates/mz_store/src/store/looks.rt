@@ -10,6 +10,7 @@ ghost use Rattle.mz_delta.specs.Reading.{neighbour_at};
 ghost use Rattle.mz_delta.specs.Rooms.{FitsReading, greatest_degree, greatest_touched};
 ghost use Rattle.mz_store.specs.Loads.{AreZonesAround, places_around, rows_of, with_items};
 ghost use Rattle.mz_store.specs.Pass.{Looks};
+ghost use Rattle.mz_store.specs.Store.{IsStore};
 
 use super::Store;
 use crate::held::Held;
@@ -45,6 +46,7 @@ impl<'p> Store<'p> {
         requires idle { chair.old.taken ≡ None }
         ensures least { (chair.old.post.reached ≤ result) × (length chair.old.seen ≤ result) }
         ensures most { result ≤ self.now.run.limit }
+        ensures valid { IsStore self.now }
         ensures now { chair.new ≡ with_front chair.old result }
     {
         self.board.load_front(chair) as u32
