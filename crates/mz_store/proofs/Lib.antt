@@ -1,3 +1,4 @@
+pub mod ChangeLaws
 pub mod ItemLaws
 pub mod LoadLaws
 pub mod LookLaws
