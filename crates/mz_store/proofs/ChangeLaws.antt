@@ -96,7 +96,7 @@ module _ (parts : Parts) (unit from to : ℕ) where
   pub unit-apart : (totals : List ℕ) → unit < unit_count parts → All (λ (w : ℕ × ℕ). w.0 ≢ unit) (row_writes parts unit from to (touched_rows parts unit) totals)
   unit-apart totals within = row-words (λ n. n ≢ unit) (touched_rows parts unit) totals (λ k d h e. absurd (omega arith))
 
-  row-writes-are : (p : ℕ → Bool) (f : ℕ → ℕ) (rows : List ℕ) → ((row : ℕ) → p row ≡ differs row) → row_writes parts unit from to rows (map f rows) ≡ map (λ (row : ℕ). (unit_count parts + row, f row)) (filter p rows)
+  pub row-writes-are : (p : ℕ → Bool) (f : ℕ → ℕ) (rows : List ℕ) → ((row : ℕ) → p row ≡ differs row) → row_writes parts unit from to rows (map f rows) ≡ map (λ (row : ℕ). (unit_count parts + row, f row)) (filter p rows)
   row-writes-are p f [] same = refl
   row-writes-are p f (row ∷ rows) same =
       let rest = row-writes-are p f rows same in elim (cases_Bool (differs row)) [

@@ -1,4 +1,6 @@
+pub mod AppendLaws
 pub mod ChangeLaws
+pub mod EntryLaws
 pub mod ItemLaws
 pub mod LoadLaws
 pub mod LookLaws

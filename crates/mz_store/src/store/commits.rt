@@ -112,6 +112,7 @@ impl<'p> Store<'p> {
         requires store { chair.old.lock ≡ self.now.board }
         requires setting { chair.old.lock.setting ≡ Some (run_of held.old.kept.value) }
         requires turn { HasTurn chair.old (told_all held.old.kept.value.setting held.old.kept.value.journal) }
+        requires kept { IsKept held.old.kept.value }
         requires not_full { length held.old.kept.value.journal < held.old.kept.value.limit }
         requires seat { (judged.now.seat ≡ chair.old.number) × (judged.now.seat < held.old.kept.value.seats) }
         requires unit { judged.now.unit < unit_count held.old.kept.value.setting.parts }
