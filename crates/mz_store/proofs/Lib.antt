@@ -8,4 +8,5 @@ pub mod PassLaws
 pub mod RightLaws
 pub mod StoreLaws
 pub mod ToldLaws
+pub mod TurnLaws
 pub mod WordLaws
