@@ -1,9 +1,11 @@
 pub mod AppendLaws
 pub mod ChangeLaws
+pub mod CommitLaws
 pub mod EntryLaws
 pub mod ItemLaws
 pub mod LoadLaws
 pub mod LookLaws
+pub mod OwnLaws
 pub mod PassLaws
 pub mod RightLaws
 pub mod StoreLaws
