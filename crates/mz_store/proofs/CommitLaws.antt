@@ -25,13 +25,15 @@ use Rattle.mz_store.specs.declared.store.commits.Turn.{Turn}
 use Rattle.mz_store.specs.declared.told.Told.{Told}
 use Rattle.mz_store.specs.declared.verdict.Verdict.{Verdict}
 use Rattle.mz_store.specs.contracts.held.HeldStory.TheImpl.{ghosts}
-use Rattle.mz_store.specs.Commits.{Commits, Finds}
+use Rattle.mz_store.specs.declared.verdict.TryVerdict.{TryVerdict}
+use Rattle.mz_store.specs.declared.verdict.Verdict.TheVariants.{Again, Decided, Full}
+use Rattle.mz_store.specs.Commits.{Commits, CommitsAtOnce, Finds, Tries}
 use Rattle.mz_store.specs.Pass.{draw_of, IsPass, pass_of, PassState}
 use Rattle.mz_store.specs.RunSetting.{run_of, RunSetting}
 use Rattle.mz_store.specs.Store.{IsStore, StoreState}
 use Rattle.mz_store.specs.Told.{seat_of, told_all, untold}
 use Rattle.mz_store.specs.Turns.{Decides, ended}
-use Rattle.mz_store.specs.Verdict.{added, answer_of, verdict_on}
+use Rattle.mz_store.specs.Verdict.{added, answer_of, try_of, verdict_on}
 use Rattle.mz_store.proofs.AppendLaws.{run-is}
 use Rattle.mz_store.proofs.OwnLaws.{added-own, added-turns, grew-own, grew-turns, OfSeat, untold-grew}
 use Rattle.mz_store.proofs.ToldLaws.{length-told, untold-told}
@@ -165,3 +167,19 @@ module _ (now : StoreState) (chair : ChairState Told RunSetting) (seat number re
         tries = omega (arith, more, tried);
         now = state-is new (told_all s j) (told_all s after) after turn.length turn.number (new-is m d) (untold-told s after) d.length_is (next-number m d);
       })
+
+  -- where the first try found the turn free
+  pub committed-at_once : Mid → Decided_ → tries ≡ chair.tries → found ≡ chair.found → CommitsAtOnce now.run old (pass_of new turn.number turn.length None) reading turn.verdict
+  committed-at_once m d same_tries same_found = record {
+    commits = committed-commits m d (omega arith);
+    tries = ap (λ (c : ChairState Told RunSetting). c.tries) (new-is m d) ∙ same_tries ∙ ap (λ (p : PassState). p.tries) taken.old_is;
+    found = ap (λ (c : ChairState Told RunSetting). c.found) (new-is m d) ∙ same_found ∙ ap (λ (p : PassState). p.found) taken.old_is;
+  }
+
+tries-once : (run : RunSetting) (old new : PassState) (reading : Reading) (verdict : Verdict) → CommitsAtOnce run old new reading verdict → Tries run old new reading (try_of verdict)
+tries-once run old new reading (Decided receipt) commits = commits
+tries-once run old new reading (Again position) commits = commits
+tries-once run old new reading Full commits = commits
+
+pub tried-once : (run : RunSetting) (old new : PassState) (reading : Reading) (verdict : Verdict) (result : TryVerdict) → result ≡ try_of verdict → CommitsAtOnce run old new reading verdict → Tries run old new reading result
+tried-once run old new reading verdict result is commits = subst (Tries run old new reading) (sym is) (tries-once run old new reading verdict commits)
