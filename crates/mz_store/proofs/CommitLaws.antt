@@ -28,7 +28,7 @@ use Rattle.mz_store.specs.contracts.held.HeldStory.TheImpl.{ghosts}
 use Rattle.mz_store.specs.declared.verdict.TryVerdict.{TryVerdict}
 use Rattle.mz_store.specs.declared.verdict.Verdict.TheVariants.{Again, Decided, Full}
 use Rattle.mz_store.specs.Commits.{Commits, CommitsAtOnce, Finds, Tries}
-use Rattle.mz_store.specs.Pass.{draw_of, IsPass, pass_of, PassState}
+use Rattle.mz_store.specs.Pass.{draw_of, IsPass, pass_of, PassState, Room}
 use Rattle.mz_store.specs.RunSetting.{run_of, RunSetting}
 use Rattle.mz_store.specs.Store.{IsStore, StoreState}
 use Rattle.mz_store.specs.Told.{seat_of, told_all, untold}
@@ -55,14 +55,14 @@ abbrev pub after_turn : ChairState Told RunSetting → List Told → ℕ → ℕ
 after_turn chair list tries found last = ended (record (with_turn chair list) { tries = tries; found = found }) last
 
 -- what is known of a pass before a commit, and what it took
-pub record Taken (now : StoreState) (chair : ChairState Told RunSetting) (seat number reached : ℕ) (last : Option Reading) (room : ℕ) (old : PassState) (held : Held) : Type 0 where
+pub record Taken (now : StoreState) (chair : ChairState Told RunSetting) (seat number reached : ℕ) (last : Option Reading) (room : Room) (old : PassState) (held : Held) : Type 0 where
   pub store : IsStore now
   pub pass : IsPass chair seat number reached last room
   pub old_is : pass_of chair number reached last ≡ old
   pub here : old.store ≡ now.board
   pub takes : Takes ghosts chair held
 
-module _ (now : StoreState) (chair : ChairState Told RunSetting) (seat number reached : ℕ) (last : Option Reading) (room : ℕ) (old : PassState) (held : Held) (taken : Taken now chair seat number reached last room old held) where
+module _ (now : StoreState) (chair : ChairState Told RunSetting) (seat number reached : ℕ) (last : Option Reading) (room : Room) (old : PassState) (held : Held) (taken : Taken now chair seat number reached last room old held) where
   abbrev k : KeptState
   k = held.kept.value
 
@@ -85,7 +85,7 @@ module _ (now : StoreState) (chair : ChairState Told RunSetting) (seat number re
       ∙ ap (λ n. next_draw s.parts s.seed s.run k.journal n) (sym same) in
       subst (λ (d : Draw). IsRight s.parts reading d judged) own right
 
-module _ (now : StoreState) (chair : ChairState Told RunSetting) (seat number reached : ℕ) (last : Option Reading) (room : ℕ) (old : PassState) (held : Held) (taken : Taken now chair seat number reached last room old held)
+module _ (now : StoreState) (chair : ChairState Told RunSetting) (seat number reached : ℕ) (last : Option Reading) (room : Room) (old : PassState) (held : Held) (taken : Taken now chair seat number reached last room old held)
     (mid new : ChairState Told RunSetting) (reading : Reading) (turn : Turn) (tries found : ℕ) where
   abbrev j : List Entry
   j = held.kept.value.journal
@@ -135,6 +135,7 @@ module _ (now : StoreState) (chair : ChairState Told RunSetting) (seat number re
         least = omega arith;
         read = λ (other : Reading) (run : RunSetting) it known. absurd (none-some other it);
         room_is = pass.room_is;
+      unused = pass.unused;
       })
 
   state-is : (c : ChairState Told RunSetting) (list list' : List Told) (es : List Entry) (m n : ℕ) → c ≡ after_turn chair list tries found list' → untold list' ≡ es → m ≡ length es → n ≡ number + length (added turn.verdict)

@@ -3,8 +3,10 @@ pub mod ChangeLaws
 pub mod CommitLaws
 pub mod EntryLaws
 pub mod ItemLaws
+pub mod LeaveLaws
 pub mod LoadLaws
 pub mod LookLaws
+pub mod OpenLaws
 pub mod OwnLaws
 pub mod PassLaws
 pub mod RightLaws

@@ -16,7 +16,7 @@ use Rattle.mz_delta.specs.Reading.{IsWellFormed}
 use Rattle.mz_store.specs.declared.told.Told.{Told}
 use Rattle.mz_store.specs.Loads.{AreZonesAround, places_around, rows_of, with_items}
 use Rattle.mz_store.specs.Looks.{IsLoaded, loads_of}
-use Rattle.mz_store.specs.Pass.{IsPass, Looks, pass_of, PassState}
+use Rattle.mz_store.specs.Pass.{IsPass, Looks, pass_of, PassState, Room}
 use Rattle.mz_store.specs.RunSetting.{RunSetting}
 use Rattle.mz_store.specs.Store.{IsStore, StoreState}
 use Rattle.mz_store.proofs.LoadLaws.{zip-around}
@@ -79,7 +79,7 @@ some-same : {X : Type 0} (x y : X) → Some x ≡ Some y → x ≡ y
 some-same x y e = cc
 
 -- the pass keeps what its chair loaded
-pub looked-pass : (now : StoreState) (before first second third after : ChairState Told RunSetting) (seat number reached room : ℕ) (last : Option Reading) (value reading : Reading) → IsStore now → before.lock ≡ now.board
+pub looked-pass : (now : StoreState) (before first second third after : ChairState Told RunSetting) (seat number reached : ℕ) (room : Room) (last : Option Reading) (value reading : Reading) → IsStore now → before.lock ≡ now.board
     → IsPass before seat number reached last room → HasLooked now.run.setting.parts before first second third after reading → (before.post.reached ≤ reading.front) × (length before.seen ≤ reading.front) → reading.seat ≡ seat → value ≡ reading
     → IsPass after seat number reading.front (Some value) room
 looked-pass now before first second third after seat number reached room last value reading is here pass h least own same =
@@ -105,10 +105,11 @@ looked-pass now before first second third after seat number reached room last va
           subst (λ (r : Reading). IsLoaded run.setting.parts before.number (look_chair parts before reading).post r) (some-same reading other it)
           (subst (λ (r : RunSetting). IsLoaded r.setting.parts before.number (look_chair parts before reading).post reading) run_is loaded);
       room_is = pass.room_is;
+      unused = pass.unused;
     }))
 
 -- and contracts see the look
-pub looked-looks : (now : StoreState) (before first second third after : ChairState Told RunSetting) (seat number reached room unit : ℕ) (last : Option Reading) (value reading : Reading) (old : PassState) → pass_of before number reached last ≡ old
+pub looked-looks : (now : StoreState) (before first second third after : ChairState Told RunSetting) (seat number reached : ℕ) (room : Room) (unit : ℕ) (last : Option Reading) (value reading : Reading) (old : PassState) → pass_of before number reached last ≡ old
     → IsPass before seat number reached last room → HasLooked now.run.setting.parts before first second third after reading → (before.post.reached ≤ reading.front) × (length before.seen ≤ reading.front) → reading.front ≤ now.run.limit
     → reading.seat ≡ seat → reading.unit ≡ unit → value ≡ reading → Looks now.run old (pass_of after number reading.front (Some value)) unit reading
 looked-looks now before first second third after seat number reached room unit last value reading old seen pass h least most own same_unit same =

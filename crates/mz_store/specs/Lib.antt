@@ -1,4 +1,5 @@
 pub mod Commits
+pub mod Gathered
 pub mod Leaves
 pub mod Loads
 pub mod Looks

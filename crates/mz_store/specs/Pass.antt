@@ -50,10 +50,15 @@ pass_of chair number reached reading = record {
   loads = chair.post.items;
 }
 
+-- room for chairs: for how many, and how many are there
+pub record Room : Type 0 where
+  pub capacity : ℕ
+  pub used : ℕ
+
 -- the pass doesn't hold the turn, and its own entries are those of its seat in the list that it has seen; its last
--- reading is what its chair loaded; the room is for the chairs of all passes
+-- reading is what its chair loaded; its room, of which nothing is used, is for the chairs of all passes
 pub record IsPass
-    (chair : ChairState Told RunSetting) (seat number reached : ℕ) (reading : Option Reading) (room : ℕ)
+    (chair : ChairState Told RunSetting) (seat number reached : ℕ) (reading : Option Reading) (room : Room)
     : Type 0 where
   pub idle : chair.taken ≡ None
   pub own : chair.own ≡ chair.seen
@@ -65,7 +70,8 @@ pub record IsPass
   pub least : length chair.seen ≤ chair.post.reached
   pub read : (last : Reading) (run : RunSetting) → reading ≡ Some last → chair.lock.setting ≡ Some run
       → IsLoaded run.setting.parts chair.number chair.post last
-  pub room_is : chair.lock.seats ≤ room
+  pub room_is : chair.lock.seats ≤ room.capacity
+  pub unused : room.used ≡ 0
 
 -- a pass at the opening: it has seen and read nothing
 abbrev pub fresh_pass : BoardId RunSetting → ℕ → PassState

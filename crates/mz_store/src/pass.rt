@@ -23,7 +23,7 @@ pub struct Pass {
 }
 
 impl Model for Pass {
-    ghost use Rattle.std.specs.Prelude.{vec_capacity};
+    ghost use Rattle.std.specs.Prelude.{length, vec_capacity};
     ghost use Rattle.std.specs.Option.{option_map};
     ghost use Rattle.mz_store.specs.Pass.{IsPass, PassState, pass_of};
 
@@ -32,7 +32,7 @@ impl Model for Pass {
     ghost view = { λ p. pass_of p.chair p.number p.reached (option_map (λ r. r.value) p.reading) };
 
     ghost invariant = { λ p. IsPass p.chair p.seat p.number p.reached (option_map (λ r. r.value) p.reading)
-        (vec_capacity p.room) };
+        (record { capacity = vec_capacity p.room; used = length p.room.items }) };
 }
 
 impl Pass {

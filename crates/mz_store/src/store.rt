@@ -18,6 +18,7 @@ use std::marker::Model;
 
 mod changes;
 mod commits;
+mod leaves;
 mod looks;
 
 /// A run under a board: passes look at its plan without waiting, judge their moves, and commit them in turns. Contracts
