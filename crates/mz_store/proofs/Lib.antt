@@ -6,6 +6,7 @@ pub mod ItemLaws
 pub mod LeaveLaws
 pub mod LoadLaws
 pub mod LookLaws
+pub mod MeetLaws
 pub mod OpenLaws
 pub mod OwnLaws
 pub mod PassLaws

@@ -35,7 +35,7 @@ impl<'p> Store<'p> {
     /// What the run leaves, once all passes are back. It takes no memory.
     pub fn close(self, passes: Vec<Pass>) -> Closed
         requires { AreAllOf self passes.items }
-        ensures { Closes self passes.items result.journal.items result.plan result.totals.items result.score }
+        ensures { Closes self.entry passes.items result.journal.items result.plan result.totals.items result.score }
     {
         let chairs = gather(&self.board, passes);
         let Store { board, .. } = self;
