@@ -49,7 +49,7 @@ module _ (store : BoardId RunSetting) (passes : List PassState) where
             (All-cons (λ (c : ChairState Told RunSetting). (c.lock ≡ store) × (c.taken ≡ None)) chair [] (home, is.idle) (All-nil (λ (c : ChairState Told RunSetting). (c.lock ≡ store) × (c.taken ≡ None))));
         each = λ p has. elim (Contains-push_cases left pass p (subst (λ (ps : List PassState). Contains ps p) split has)) [
           | inl there ↦ inl there
-          | inr same ↦ inr (chair, (subst (λ (cs : List (ChairState Told RunSetting)). Contains cs chair) (sym first) (Contains-push [] chair), subst (λ (q : PassState). Knows q chair) same (own-knows chair seat number reached reading own pass is seen)))
+          | inr same ↦ inr (chair, subst (λ (cs : List (ChairState Told RunSetting)). Contains cs chair) (sym first) (Contains-push [] chair), subst (λ (q : PassState). Knows q chair) same (own-knows chair seat number reached reading own pass is seen))
         ];
       }
 
@@ -67,9 +67,9 @@ module _ (store : BoardId RunSetting) (passes : List PassState) where
         each = λ p has. elim (so_far.each p has) [
           | inl waits ↦ elim (Contains-push_cases left' pass p (subst (λ (ps : List PassState). Contains ps p) split waits)) [
             | inl there ↦ inl there
-            | inr same ↦ inr (chair, (subst (λ (cs : List (ChairState Told RunSetting)). Contains cs chair) (sym pushed) (Contains-push chairs chair), subst (λ (q : PassState). Knows q chair) same (own-knows chair seat number reached reading own pass is seen)))
+            | inr same ↦ inr (chair, subst (λ (cs : List (ChairState Told RunSetting)). Contains cs chair) (sym pushed) (Contains-push chairs chair), subst (λ (q : PassState). Knows q chair) same (own-knows chair seat number reached reading own pass is seen))
           ]
-          | inr (other, (stands, knows)) ↦ inr (other, (subst (λ (cs : List (ChairState Told RunSetting)). Contains cs other) (sym pushed) (Contains-append_left chairs (chair ∷ []) other stands), knows))
+          | inr found ↦ inr (found.0, subst (λ (cs : List (ChairState Told RunSetting)). Contains cs found.0) (sym pushed) (Contains-append_left chairs (chair ∷ []) found.0 found.1), found.2)
         ];
       }
 
@@ -78,6 +78,10 @@ module _ (store : BoardId RunSetting) (passes : List PassState) where
     idle = so_far.idle;
     each = λ p has. elim (so_far.each p has) [
       | inl waits ↦ absurd (nothing-left left p none waits)
-      | inr found ↦ (found.0, found.1.0, found.1.1)
+      | inr found ↦ found
     ];
   }
+
+pub nil-of : {X : Type 0} (xs : List X) → length xs ≡ 0 → xs ≡ []
+nil-of [] none = refl
+nil-of (x ∷ xs) none = absurd (omega arith)

@@ -1,5 +1,6 @@
 pub mod AppendLaws
 pub mod ChangeLaws
+pub mod CloseLaws
 pub mod CommitLaws
 pub mod EntryLaws
 pub mod ItemLaws
