@@ -2,6 +2,7 @@ pub mod AppendLaws
 pub mod ChangeLaws
 pub mod CloseLaws
 pub mod CommitLaws
+pub mod CrossingLaws
 pub mod EntryLaws
 pub mod ItemLaws
 pub mod LeaveLaws
