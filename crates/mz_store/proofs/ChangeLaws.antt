@@ -101,10 +101,10 @@ module _ (parts : Parts) (unit from to : ℕ) where
   row-writes-are p f (row ∷ rows) same =
       let rest = row-writes-are p f rows same in elim (cases_Bool (differs row)) [
         | inl moves ↦ ap (λ b. cond b ((unit_count parts + row, f row) ∷ row_writes parts unit from to rows (map f rows)) (row_writes parts unit from to rows (map f rows))) moves
-          ∙ ap (λ (ws : List (ℕ × ℕ)). (unit_count parts + row, f row) ∷ ws) rest
-          ∙ ap (λ b. map (λ (row : ℕ). (unit_count parts + row, f row)) (cond b (row ∷ filter p rows) (filter p rows))) (sym (same row ∙ moves))
+            ∙ ap (λ (ws : List (ℕ × ℕ)). (unit_count parts + row, f row) ∷ ws) rest
+            ∙ ap (λ b. map (λ (row : ℕ). (unit_count parts + row, f row)) (cond b (row ∷ filter p rows) (filter p rows))) (sym (same row ∙ moves))
         | inr stays ↦ ap (λ b. cond b ((unit_count parts + row, f row) ∷ row_writes parts unit from to rows (map f rows)) (row_writes parts unit from to rows (map f rows))) stays
-          ∙ rest ∙ ap (λ b. map (λ (row : ℕ). (unit_count parts + row, f row)) (cond b (row ∷ filter p rows) (filter p rows))) (sym (same row ∙ stays))
+            ∙ rest ∙ ap (λ b. map (λ (row : ℕ). (unit_count parts + row, f row)) (cond b (row ∷ filter p rows) (filter p rows))) (sym (same row ∙ stays))
       ]
 
 -- ---- the step over a row

@@ -135,7 +135,7 @@ module _ (now : StoreState) (chair : ChairState Told RunSetting) (seat number re
         least = omega arith;
         read = λ (other : Reading) (run : RunSetting) it known. absurd (none-some other it);
         room_is = pass.room_is;
-      unused = pass.unused;
+        unused = pass.unused;
       })
 
   state-is : (c : ChairState Told RunSetting) (list list' : List Told) (es : List Entry) (m n : ℕ) → c ≡ after_turn chair list tries found list' → untold list' ≡ es → m ≡ length es → n ≡ number + length (added turn.verdict)

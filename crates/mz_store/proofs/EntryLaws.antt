@@ -86,8 +86,8 @@ changed-inside : (parts : Parts) (entry : Entry) → IsMove parts entry → All 
 changed-inside parts entry move =
     elim entry.accepted as (λ b. All (IsItem parts) (cond b (unit_item entry.unit ∷ map row_item (filter (λ row. changes parts entry (row_item row)) (touched_rows parts entry.unit))) [])) [
       | true ↦ All-cons (IsItem parts) (unit_item entry.unit) _ move.unit
-        (All-map (IsItem parts) row_item (filter (λ row. changes parts entry (row_item row)) (touched_rows parts entry.unit))
-        (All-filter (λ row. changes parts entry (row_item row)) (λ row. row < target_count parts) (touched_rows parts entry.unit) (touched_rows-in_range parts entry.unit)))
+          (All-map (IsItem parts) row_item (filter (λ row. changes parts entry (row_item row)) (touched_rows parts entry.unit))
+          (All-filter (λ row. changes parts entry (row_item row)) (λ row. row < target_count parts) (touched_rows parts entry.unit) (touched_rows-in_range parts entry.unit)))
       | false ↦ All-nil (IsItem parts)
     ]
 
@@ -106,39 +106,50 @@ writes-fit s history entry words valid legal move count =
 row-changes : (parts : Parts) (entry : Entry) (row : ℕ) → entry.accepted ≡ true → changes parts entry (row_item row) ≡ not (gain_of parts row entry.unit entry.old == gain_of parts row entry.unit entry.new)
 row-changes parts entry row taken = ap (λ b. b && not (gain_of parts row entry.unit entry.old == gain_of parts row entry.unit entry.new)) taken
 
-taken-writes : (k : KeptState) (judged : Judged) (entry : Entry) → IsKept k → IsNextMove k judged → judged.unit < unit_count k.setting.parts → entry ≡ entry_of_seat k.setting k.journal judged.seat → entry.accepted ≡ true
+two-parts : (a b : ℕ × ℕ) (xs ys : List (ℕ × ℕ)) → a ≡ b → xs ≡ ys → a ∷ xs ≡ b ∷ ys
+two-parts a b xs ys first rest = λ i. first i ∷ rest i
+
+-- the row and the total that a word's write has
+abbrev row_write : Parts → List ℕ → ℕ → ℕ × ℕ
+row_write parts plan row = (unit_count parts + row, held_of parts plan row)
+
+taken-writes : (k : KeptState) (judged : Judged) (entry : Entry) (after rows : List ℕ) → IsKept k → IsNextMove k judged → judged.unit < unit_count k.setting.parts → entry.accepted ≡ true
+    → entry.unit ≡ judged.unit → entry.old ≡ judged.old → entry.new ≡ judged.new → plan_of_history k.setting (k.journal ++ entry ∷ []) ≡ after → slice_index after judged.unit ≡ judged.new
+    → judged.totals.items ≡ map (held_of k.setting.parts after) rows → touched_rows k.setting.parts judged.unit ≡ rows
     → writes_of k.setting k.journal entry ≡ move_writes k.setting.parts judged true
-taken-writes k judged entry kept next within is taken =
-    let parts = k.setting.parts in let plan = plan_of_history k.setting k.journal in
-    let unit : entry.unit ≡ judged.unit = ap (λ (e : Entry). e.unit) is ∙ sym next.unit in
-    let old : entry.old ≡ judged.old = ap (λ (e : Entry). e.old) is ∙ sym next.old in
-    let new : entry.new ≡ judged.new = ap (λ (e : Entry). e.new) is ∙ sym next.new in
-    let moved = moved_plan plan judged.unit judged.new in
-    let after : plan_of_history k.setting (k.journal ++ entry ∷ []) ≡ moved = plan-push k.setting k.journal entry ∙ after-accepted plan entry taken ∙ ap (λ u. moved_plan plan u entry.new) unit ∙ ap (λ z. moved_plan plan judged.unit z) new in
-    let whole = (last_plan-legal k.setting k.journal kept.valid kept.journal.history).whole in
-    let first : slice_index (plan_of_history k.setting (k.journal ++ entry ∷ [])) entry.unit ≡ judged.new = ap (λ (p : List ℕ). slice_index p entry.unit) after ∙ ap (λ u. slice_index moved u) unit ∙ moved-own plan judged.unit judged.new (omega (arith, whole, within)) in
-    let draw = next_draw parts k.setting.seed k.setting.run k.journal judged.seat in
-    let rows = touched_rows parts judged.unit in
+taken-writes k judged entry after rows kept next within taken unit old new plan_is zone totals rows_are =
+    let parts = k.setting.parts in
     let p : ℕ → Bool = λ row. changes parts entry (row_item row) in
-    let there : judged.totals.items ≡ map (held_of parts moved) rows =
-    next.difference.totals ∙ ap (λ u. map (held_of parts (moved_plan plan u (drawn_zone parts plan draw))) rows) (sym next.unit) ∙ ap (λ z. map (held_of parts (moved_plan plan judged.unit z)) rows) (sym next.new) in
     let same : (row : ℕ) → p row ≡ not (gain_of parts row judged.unit judged.old == gain_of parts row judged.unit judged.new) =
     λ row. row-changes parts entry row taken ∙ ap (λ u. not (gain_of parts row u entry.old == gain_of parts row u entry.new)) unit ∙ ap (λ z. not (gain_of parts row judged.unit z == gain_of parts row judged.unit entry.new)) old
     ∙ ap (λ z. not (gain_of parts row judged.unit judged.old == gain_of parts row judged.unit z)) new in
-    let owed : row_writes parts judged.unit judged.old judged.new rows judged.totals.items ≡ map (λ (row : ℕ). (unit_count parts + row, held_of parts moved row)) (filter p rows) =
-    ap (λ (ts : List ℕ). row_writes parts judged.unit judged.old judged.new rows ts) there ∙ row-writes-are parts judged.unit judged.old judged.new p (held_of parts moved) rows same in
-    let later : map (λ (row : ℕ). (unit_count parts + row, held_of parts (plan_of_history k.setting (k.journal ++ entry ∷ [])) row)) (filter p (touched_rows parts entry.unit)) ≡ map (λ (row : ℕ). (unit_count parts + row, held_of parts moved row)) (filter p rows) =
-    ap (λ (q : List ℕ). map (λ (row : ℕ). (unit_count parts + row, held_of parts q row)) (filter p (touched_rows parts entry.unit))) after
-    ∙ ap (λ u. map (λ (row : ℕ). (unit_count parts + row, held_of parts moved row)) (filter p (touched_rows parts u))) unit in
-    accepted-writes k.setting k.journal entry taken
-    ∙ ap (λ u. (u, slice_index (plan_of_history k.setting (k.journal ++ entry ∷ [])) entry.unit) ∷ map (λ (row : ℕ). (unit_count parts + row, held_of parts (plan_of_history k.setting (k.journal ++ entry ∷ [])) row)) (filter p (touched_rows parts entry.unit))) unit
-    ∙ ap (λ z. (judged.unit, z) ∷ map (λ (row : ℕ). (unit_count parts + row, held_of parts (plan_of_history k.setting (k.journal ++ entry ∷ [])) row)) (filter p (touched_rows parts entry.unit))) first
-    ∙ ap (λ (ws : List (ℕ × ℕ)). (judged.unit, judged.new) ∷ ws) (later ∙ sym owed)
+    let owed : row_writes parts judged.unit judged.old judged.new (touched_rows parts judged.unit) judged.totals.items ≡ map (row_write parts after) (filter p rows) =
+    ap (λ (rs : List ℕ). row_writes parts judged.unit judged.old judged.new rs judged.totals.items) rows_are
+    ∙ ap (λ (ts : List ℕ). row_writes parts judged.unit judged.old judged.new rows ts) totals ∙ row-writes-are parts judged.unit judged.old judged.new p (held_of parts after) rows same in
+    let later : map (row_write parts (plan_of_history k.setting (k.journal ++ entry ∷ []))) (filter p (touched_rows parts entry.unit)) ≡ map (row_write parts after) (filter p rows) =
+    ap (λ (q : List ℕ). map (row_write parts q) (filter p (touched_rows parts entry.unit))) plan_is ∙ ap (λ (rs : List ℕ). map (row_write parts after) (filter p rs)) (ap (touched_rows parts) unit ∙ rows_are) in
+    let first : (entry.unit, slice_index (plan_of_history k.setting (k.journal ++ entry ∷ [])) entry.unit) ≡ (judged.unit, judged.new) =
+    ap (λ (q : List ℕ). (entry.unit, slice_index q entry.unit)) plan_is ∙ ap (λ (u : ℕ). (u, slice_index after u)) unit ∙ ap (λ (z : ℕ). (judged.unit, z)) zone in
+    accepted-writes k.setting k.journal entry taken ∙ two-parts _ _ _ _ first (later ∙ sym owed)
+
+move-taken : (k : KeptState) (judged : Judged) (entry : Entry) → IsKept k → IsNextMove k judged → judged.unit < unit_count k.setting.parts → entry ≡ entry_of_seat k.setting k.journal judged.seat → entry.accepted ≡ true
+    → writes_of k.setting k.journal entry ≡ move_writes k.setting.parts judged true
+move-taken k judged entry kept next within is taken =
+    let parts = k.setting.parts in let plan = plan_of_history k.setting k.journal in
+    let unit : entry.unit ≡ judged.unit = ap (λ (e : Entry). e.unit) is ∙ sym next.unit in
+    let new : entry.new ≡ judged.new = ap (λ (e : Entry). e.new) is ∙ sym next.new in
+    let draw = next_draw parts k.setting.seed k.setting.run k.journal judged.seat in
+    let whole = (last_plan-legal k.setting k.journal kept.valid kept.journal.history).whole in
+    taken-writes k judged entry (moved_plan plan judged.unit judged.new) (touched_rows parts judged.unit) kept next within taken unit (ap (λ (e : Entry). e.old) is ∙ sym next.old) new
+    (plan-push k.setting k.journal entry ∙ after-accepted plan entry taken ∙ ap (λ u. moved_plan plan u entry.new) unit ∙ ap (λ z. moved_plan plan judged.unit z) new)
+    (moved-own plan judged.unit judged.new (omega (arith, whole, within)))
+    (next.difference.totals ∙ ap (λ u. map (held_of parts (moved_plan plan u (drawn_zone parts plan draw))) (touched_rows parts judged.unit)) (sym next.unit)
+    ∙ ap (λ z. map (held_of parts (moved_plan plan judged.unit z)) (touched_rows parts judged.unit)) (sym next.new)) refl
 
 -- what the entry of a judged move writes
 pub entry-writes : (k : KeptState) (judged : Judged) (entry : Entry) → IsKept k → IsNextMove k judged → judged.unit < unit_count k.setting.parts → entry ≡ entry_of_seat k.setting k.journal judged.seat
     → writes_of k.setting k.journal entry ≡ move_writes k.setting.parts judged entry.accepted
 entry-writes k judged entry kept next within is = elim (cases_Bool entry.accepted) [
-  | inl taken ↦ taken-writes k judged entry kept next within is taken ∙ ap (move_writes k.setting.parts judged) (sym taken)
+  | inl taken ↦ move-taken k judged entry kept next within is taken ∙ ap (move_writes k.setting.parts judged) (sym taken)
   | inr refused ↦ refused-writes k.setting k.journal entry refused ∙ ap (move_writes k.setting.parts judged) (sym refused)
 ]

@@ -73,9 +73,9 @@ unfolding touched_rows
 changed-touched parts entry row valid move within change = elim (cases_Bool (is_touched parts entry.unit row)) [
   | inl touches ↦ places_below-has (target_count parts) row (is_touched parts entry.unit) within touches
   | inr misses ↦
-    let old = gain_of-not_touched parts entry.unit row entry.old (is_allowed-in_range parts entry.unit entry.old valid move.unit move.old) misses in
-    let new = gain_of-not_touched parts entry.unit row entry.new (is_allowed-in_range parts entry.unit entry.new valid move.unit move.new) misses in
-    absurd (false≢true (sym (
+      let old = gain_of-not_touched parts entry.unit row entry.old (is_allowed-in_range parts entry.unit entry.old valid move.unit move.old) misses in
+      let new = gain_of-not_touched parts entry.unit row entry.new (is_allowed-in_range parts entry.unit entry.new valid move.unit move.new) misses in
+      absurd (false≢true (sym (
       ap (λ b. b && not (gain_of parts row entry.unit entry.old == gain_of parts row entry.unit entry.new)) (changed-accepted parts entry (row_item row) change)
       ∙ ap not (eq-eqb (gain_of parts row entry.unit entry.old) (gain_of parts row entry.unit entry.new) (old ∙ sym new))) ∙ change))
 ]

@@ -58,12 +58,12 @@ allowed-more : (parts : Parts) (unit i zone : ℕ) (zones zones' : List ℕ) →
     → (k : ℕ) → k < i + 1 → IsTrue (is_allowed parts (neighbour_at parts unit k) (slice_index zones' k))
 allowed-more parts unit i zone zones zones' count before here pushed k h = elim (leb_tells i k) [
   | inl (_, past) ↦
-    let at : k ≡ i = omega arith in
-    let last : slice_index zones' i ≡ zone = ap (λ (zs : List ℕ). get_or zs i 0) pushed ∙ ap (λ n. get_or (zones ++ zone ∷ []) n 0) (sym count) ∙ get_or-append_seam zones zone [] 0 in
-    subst (λ n. IsTrue (is_allowed parts (neighbour_at parts unit n) (slice_index zones' n))) (sym at) (subst (λ z. IsTrue (is_allowed parts (neighbour_at parts unit i) z)) (sym last) here)
+      let at : k ≡ i = omega arith in
+      let last : slice_index zones' i ≡ zone = ap (λ (zs : List ℕ). get_or zs i 0) pushed ∙ ap (λ n. get_or (zones ++ zone ∷ []) n 0) (sym count) ∙ get_or-append_seam zones zone [] 0 in
+      subst (λ n. IsTrue (is_allowed parts (neighbour_at parts unit n) (slice_index zones' n))) (sym at) (subst (λ z. IsTrue (is_allowed parts (neighbour_at parts unit i) z)) (sym last) here)
   | inr (_, below) ↦
-    let same : slice_index zones' k ≡ slice_index zones k = ap (λ (zs : List ℕ). get_or zs k 0) pushed ∙ get_or_append_left zones (zone ∷ []) 0 k (omega (arith, count)) in
-    subst (λ z. IsTrue (is_allowed parts (neighbour_at parts unit k) z)) (sym same) (before k below)
+      let same : slice_index zones' k ≡ slice_index zones k = ap (λ (zs : List ℕ). get_or zs k 0) pushed ∙ get_or_append_left zones (zone ∷ []) 0 k (omega (arith, count)) in
+      subst (λ z. IsTrue (is_allowed parts (neighbour_at parts unit k) z)) (sym same) (before k below)
 ]
 
 module _ {E S : Type 0} where
@@ -94,7 +94,7 @@ module _ {E S : Type 0} where
         allowed = λ k h. allowed k (omega (arith, whole, past));
       }
 
--- ---- target rows
+  -- ---- target rows
 
   pub next-total : (parts parts' : Parts) (unit i total : ℕ) (touches : List Touch) (d : Touch) (old now new : ChairState E S) (totals totals' : List ℕ) → parts' ≡ parts → touches ≡ touches_of parts' unit → i < length touches
       → HasLoaded old now (take i (rows_of parts unit)) totals → new ≡ with_item now (unit_count parts + (get_or touches i d).row) total → totals' ≡ totals ++ total ∷ [] → HasLoaded old new (take (i + 1) (rows_of parts unit)) totals'

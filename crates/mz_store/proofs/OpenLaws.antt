@@ -36,16 +36,16 @@ opening-fits s words word valid is within =
     let inside : word < units + target_count s.parts = omega (arith, within, ap length is, length-opening s valid) in
     ap (λ (ws : List ℕ). may_have s.parts word (slice_index_or ws word 0)) is ∙ elim (leb_tells units word) [
       | inl (_, past) ↦
-        let row : word - units < target_count s.parts = omega (arith, inside, past) in
-        let value = slice_index_or (opening_words s) word 0 in
-        let test : nat_lt word units ≡ false = grind (arith, nat_tests) in
-        let at : value ≡ _ = get_or-append_right plan totals units word 0 legal.whole past ∙ totals_of_plan-at s.parts plan totals (word - units) refl row in
-        ap (λ b. if b then is_allowed s.parts word value else nat_le value (10 ^ 18)) test
-        ∙ ap (λ n. nat_le n (10 ^ 18)) at ∙ le-leb _ (10 ^ 18) (held_of-le s.parts plan (word - units) valid row (λ unit h. plan-in_range s.parts plan unit valid legal h))
+          let row : word - units < target_count s.parts = omega (arith, inside, past) in
+          let value = slice_index_or (opening_words s) word 0 in
+          let test : nat_lt word units ≡ false = grind (arith, nat_tests) in
+          let at : value ≡ _ = get_or-append_right plan totals units word 0 legal.whole past ∙ totals_of_plan-at s.parts plan totals (word - units) refl row in
+          ap (λ b. if b then is_allowed s.parts word value else nat_le value (10 ^ 18)) test
+          ∙ ap (λ n. nat_le n (10 ^ 18)) at ∙ le-leb _ (10 ^ 18) (held_of-le s.parts plan (word - units) valid row (λ unit h. plan-in_range s.parts plan unit valid legal h))
       | inr (_, below) ↦
-        let value = slice_index_or (opening_words s) word 0 in
-        ap (λ b. if b then is_allowed s.parts word value else nat_le value (10 ^ 18)) (lt-ltb word units below)
-        ∙ ap (is_allowed s.parts word) (get_or_append_left plan totals 0 word (omega (arith, legal.whole, below))) ∙ legal.allowed word below
+          let value = slice_index_or (opening_words s) word 0 in
+          ap (λ b. if b then is_allowed s.parts word value else nat_le value (10 ^ 18)) (lt-ltb word units below)
+          ∙ ap (is_allowed s.parts word) (get_or_append_left plan totals 0 word (omega (arith, legal.whole, below))) ∙ legal.allowed word below
     ]
 
 -- ---- passes

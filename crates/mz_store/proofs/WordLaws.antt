@@ -37,7 +37,7 @@ module _ (base : ℕ) (f : ℕ → ℕ) (p : ℕ → Bool) where
   other-rows word [] apart = refl
   other-rows word (row ∷ rows) apart = elim (cases_Bool (p row)) [
     | inl passes ↦ ap (λ b. written word (row_words (cond b (row ∷ filter p rows) (filter p rows)))) passes
-      ∙ ap (λ b. cond b (Some (f row)) (written word (row_words (filter p rows)))) (ne_eqb (base + row) word (apart row passes)) ∙ other-rows word rows apart
+        ∙ ap (λ b. cond b (Some (f row)) (written word (row_words (filter p rows)))) (ne_eqb (base + row) word (apart row passes)) ∙ other-rows word rows apart
     | inr fails ↦ ap (λ b. written word (row_words (cond b (row ∷ filter p rows) (filter p rows)))) fails ∙ other-rows word rows apart
   ]
 
@@ -140,7 +140,7 @@ next-word s before entry item valid step move within so_far =
     ap (value_after writes word start) (told-push s before entry) ∙ value_push writes word start (told_all s before) (told s before entry) ∙ elim (cases_Bool (changes s.parts entry item)) [
       | inl change ↦ ap (λ (o : Option ℕ). unwrap_or o (value_after writes word start (told_all s before))) (written-changed s before entry item valid move within change)
       | inr stays ↦ ap (λ (o : Option ℕ). unwrap_or o (value_after writes word start (told_all s before))) (written-same s before entry item move within stays)
-        ∙ so_far ∙ sym (step-keeps s before entry item valid step stays)
+          ∙ so_far ∙ sym (step-keeps s before entry item valid step stays)
     ]
 
 -- by the writes of a legal journal and the opening words, each item has its value in the journal's last plan

@@ -23,7 +23,8 @@ impl<'p> Store<'p> {
         ensures { chair.new ≡ with_owes chair.old [] }
     {
         if accepted {
-            self.board.store_item(chair, judged.unit, u64::from(judged.new));
+            self.board
+                .store_item(chair, judged.unit, u64::from(judged.new));
             self.store_rows(chair, judged);
         }
     }

@@ -76,13 +76,7 @@ impl<'p> Store<'p> {
     }
 
     /// The verdict on what was judged by the reading, where the chair has taken the state; it is put back.
-    fn turn(
-        &self,
-        chair: &mut Chair<Held>,
-        held: Held,
-        reading: &Reading,
-        judged: &Judged,
-    ) -> Turn
+    fn turn(&self, chair: &mut Chair<Held>, held: Held, reading: &Reading, judged: &Judged) -> Turn
         requires store { chair.old.lock ≡ self.now.board }
         requires setting { chair.old.lock.setting ≡ Some (run_of held.kept.value) }
         requires turn { HasTurn chair.old (told_all held.kept.value.setting held.kept.value.journal) }

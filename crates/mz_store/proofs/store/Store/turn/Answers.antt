@@ -10,15 +10,15 @@ use Rattle.mz_store.proofs.store.Store.turn.Goals as goal
 
 pub returns-then-length-self : goal.returns-then-length-self
 returns-then-length-self c = left-alone c.args.self.now c.args.chair.now c.args.held.kept.value c.args.reading.now c.args.judged.now (record {
-      store = store-now _ c.args.self.now c.self.view_is c.self.invariant;
-      here = c.requires.store;
-      setting = c.requires.setting;
-      turn = c.requires.turn;
-      reads = c.requires.reads;
-      loaded = c.requires.loaded;
-      kept = kept-through c.args.held.kept.value _ c.deref.ensures c.length.ensures.kept;
-      right = c.requires.right;
-    })
+  store = store-now _ c.args.self.now c.self.view_is c.self.invariant;
+  here = c.requires.store;
+  setting = c.requires.setting;
+  turn = c.requires.turn;
+  reads = c.requires.reads;
+  loaded = c.requires.loaded;
+  kept = kept-through c.args.held.kept.value _ c.deref.ensures c.length.ensures.kept;
+  right = c.requires.right;
+})
     c.end_turn.new.chair Full c.end_turn.result refl (full-answer c.args.self.now c.args.chair.now c.args.held.kept.value c.args.reading.now c.args.judged.now (record {
       store = store-now _ c.args.self.now c.self.view_is c.self.invariant;
       here = c.requires.store;
@@ -34,15 +34,15 @@ returns-then-length-self c = left-alone c.args.self.now c.args.chair.now c.args.
 
 pub returns-in-Some : goal.returns-in-Some
 returns-in-Some c = left-alone c.args.self.now c.args.chair.now c.args.held.kept.value c.args.reading.now c.args.judged.now (record {
-      store = store-now _ c.args.self.now c.self.view_is c.self.invariant;
-      here = c.requires.store;
-      setting = c.requires.setting;
-      turn = c.requires.turn;
-      reads = c.requires.reads;
-      loaded = c.requires.loaded;
-      kept = kept-through c.args.held.kept.value _ c.deref.ensures c.length.ensures.kept;
-      right = c.requires.right;
-    })
+  store = store-now _ c.args.self.now c.self.view_is c.self.invariant;
+  here = c.requires.store;
+  setting = c.requires.setting;
+  turn = c.requires.turn;
+  reads = c.requires.reads;
+  loaded = c.requires.loaded;
+  kept = kept-through c.args.held.kept.value _ c.deref.ensures c.length.ensures.kept;
+  right = c.requires.right;
+})
     c.end_turn-in-Some.new.chair (Again c.in-Some.position) c.end_turn-in-Some.result refl (again-answer c.args.self.now c.args.chair.now c.args.held.kept.value c.args.reading.now c.args.judged.now (record {
       store = store-now _ c.args.self.now c.self.view_is c.self.invariant;
       here = c.requires.store;
@@ -59,15 +59,15 @@ returns-in-Some c = left-alone c.args.self.now c.args.chair.now c.args.held.kept
 
 pub add_entry-receipt-requires-clause-next : goal.add_entry-receipt-requires-clause-next
 add_entry-receipt-requires-clause-next c = may-apply c.args.self.now c.args.chair.now c.args.held.kept.value c.args.reading.now c.args.judged.now (record {
-      store = store-now _ c.args.self.now c.self.view_is c.self.invariant;
-      here = c.requires.store;
-      setting = c.requires.setting;
-      turn = c.requires.turn;
-      reads = c.requires.reads;
-      loaded = c.requires.loaded;
-      kept = kept-through c.args.held.kept.value _ c.deref.ensures c.length.ensures.kept;
-      right = c.requires.right;
-    })
+  store = store-now _ c.args.self.now c.self.view_is c.self.invariant;
+  here = c.requires.store;
+  setting = c.requires.setting;
+  turn = c.requires.turn;
+  reads = c.requires.reads;
+  loaded = c.requires.loaded;
+  kept = kept-through c.args.held.kept.value _ c.deref.ensures c.length.ensures.kept;
+  right = c.requires.right;
+})
     (overtaken-through c.args.held.kept.value _ c.args.reading.now c.touched_since.result None c.deref-2.ensures c.touched_since.ensures c.in_default.is)
 
 pub end_turn-requires-2-clause-taken : goal.end_turn-requires-2-clause-taken
@@ -75,15 +75,15 @@ end_turn-requires-2-clause-taken c = (told_all c.args.held.kept.value.setting (c
 
 pub returns : goal.returns
 returns c = left-grown c.args.self.now c.args.chair.now c.args.held.kept.value c.args.reading.now c.args.judged.now (record {
-      store = store-now _ c.args.self.now c.self.view_is c.self.invariant;
-      here = c.requires.store;
-      setting = c.requires.setting;
-      turn = c.requires.turn;
-      reads = c.requires.reads;
-      loaded = c.requires.loaded;
-      kept = kept-through c.args.held.kept.value _ c.deref.ensures c.length.ensures.kept;
-      right = c.requires.right;
-    })
+  store = store-now _ c.args.self.now c.self.view_is c.self.invariant;
+  here = c.requires.store;
+  setting = c.requires.setting;
+  turn = c.requires.turn;
+  reads = c.requires.reads;
+  loaded = c.requires.loaded;
+  kept = kept-through c.args.held.kept.value _ c.deref.ensures c.length.ensures.kept;
+  right = c.requires.right;
+})
     c.add_entry-receipt.new.chair c.end_turn-2.new.chair _ c.add_entry-receipt.result c.end_turn-2.result (decided-answer c.args.self.now c.args.chair.now c.args.held.kept.value c.args.reading.now c.args.judged.now (record {
       store = store-now _ c.args.self.now c.self.view_is c.self.invariant;
       here = c.requires.store;
