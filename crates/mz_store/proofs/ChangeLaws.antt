@@ -1,45 +1,18 @@
 -- What a judged move writes, and how it is stored word by word.
-use Rattle.std.proofs.Common.{◌≡◌, ◌≢◌, ℕ, zero, suc, ◌+◌, ◌<◌, ◌≤◌, ◌^◌, Bool, true, false, cond, eqb, not, List, [], ◌∷◌, ◌++◌, length, get_or, map, drop, Option, Some, refl, sym, ap, ◌∙◌, subst, arith, inl, inr, add-one, drop-cons, ltb}
-use Rattle.std.specs.Prelude.{◌&&◌, ◌==◌, IsTrue, if◌then◌else◌, nat_le, nat_lt, slice_index}
-use Rattle.std.specs.List.{All, AllPairs, filter}
-use Rattle.std.proofs.lemmas.Bool.{cases_Bool, cases_eq, eq-eqb, false≢true, ne_eqb}
-use Rattle.std.proofs.lemmas.Bool.Decides.{nat_tests}
-use Rattle.std.proofs.lemmas.List.{get_or_default, get_or-drop, length-append, length-drop, length-map}
-use Rattle.std.proofs.lemmas.List.Elements.{All-append, All-cons, All-filter, All-head, All-map, All-nil, All-tail}
-use Rattle.mz_board.specs.Chair.{BoardId, ChairState, Fitting, MayAppend, with_entry, with_stored}
+use Rattle.std.proofs.Common.{◌≡◌, ◌≢◌, ℕ, ◌+◌, ◌<◌, Bool, true, false, cond, not, List, [], ◌∷◌, length, get_or, map, drop, Some, refl, sym, ap, ◌∙◌, arith, inl, inr, add-one, drop-cons}
+use Rattle.std.specs.Prelude.{◌==◌, slice_index}
+use Rattle.std.specs.List.{All, filter}
+use Rattle.std.proofs.lemmas.Bool.{cases_Bool, eq-eqb, ne_eqb}
+use Rattle.std.proofs.lemmas.List.{get_or_default, get_or-drop, length-drop}
+use Rattle.std.proofs.lemmas.List.Elements.{All-cons, All-head, All-nil, All-tail}
+use Rattle.mz_board.specs.Chair.{ChairState, with_stored}
 use Rattle.mz_board.specs.Items.{without, written}
 use Rattle.mz_num.proofs.PlaceLaws.{places_below-rising}
-use Rattle.mz_draw.specs.declared.draw.Draw.{Draw}
 use Rattle.mz_model.specs.declared.parts.Parts.{Parts}
-use Rattle.mz_model.specs.Items.{Item, row_item, unit_item}
-use Rattle.mz_model.specs.Move.{moved_plan}
-use Rattle.mz_model.specs.Parts.{target_count, unit_count, zone_count}
-use Rattle.mz_model.specs.Plans.{IsLegalPlan}
-use Rattle.mz_model.specs.Targets.{gain_of, held_of, is_touched, touched_rows}
-use Rattle.mz_model.specs.Valid.{IsValid}
-use Rattle.mz_model.specs.Zones.{is_allowed}
-use Rattle.mz_model.proofs.ScoreLaws.{plan-in_range}
-use Rattle.mz_model.proofs.TargetLaws.{held_of-le}
-use Rattle.mz_model.proofs.TouchLaws.{touched_rows-in_range}
-use Rattle.mz_model.proofs.ZoneLaws.{is_allowed-in_range, step_of-allowed}
+use Rattle.mz_model.specs.Parts.{target_count, unit_count}
+use Rattle.mz_model.specs.Targets.{gain_of, is_touched, touched_rows}
 use Rattle.mz_delta.specs.declared.judged.Judged.{Judged}
-use Rattle.mz_delta.proofs.MoveLaws.{moved-own}
-use Rattle.mz_history.specs.declared.entry.Entry.{Entry}
-use Rattle.mz_history.specs.Core.{entry_of_seat, next_draw, seats_of}
-use Rattle.mz_history.specs.Items.{changes, value_of_item}
-use Rattle.mz_history.specs.Moves.{IsMove}
-use Rattle.mz_history.specs.Replay.{IsLegalHistory, plan_of_history, Setting}
-use Rattle.mz_history.proofs.HistoryLaws.{legal-push, plan-push}
-use Rattle.mz_history.proofs.LegalHistoryLaws.{after-accepted, last_plan-legal}
-use Rattle.mz_state.specs.Kept.{IsKept, KeptState}
-use Rattle.mz_state.specs.NextMove.{IsMoveOf, IsNextMove}
-use Rattle.mz_store.specs.declared.told.Told.{Told}
-use Rattle.mz_store.specs.RunSetting.{RunSetting, run_of}
-use Rattle.mz_store.specs.Told.{changed_items, told, told_all, writes_of}
 use Rattle.mz_store.specs.Turns.{move_writes, row_writes, with_owes}
-use Rattle.mz_store.specs.Words.{IsItem, may_have, word_of_item}
-use Rattle.mz_store.proofs.ToldLaws.{length-told, told-push}
-use Rattle.mz_store.proofs.WordLaws.{accepted-writes, refused-writes}
 
 -- ---- words that are no longer owed
 

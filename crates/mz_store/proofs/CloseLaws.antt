@@ -1,13 +1,12 @@
 -- What a store leaves.
-use Rattle.std.proofs.Common.{◌≡◌, ℕ, ◌+◌, ◌<◌, ◌≤◌, List, [], ◌∷◌, ◌++◌, length, get_or, Option, Some, refl, sym, ap, ◌∙◌, subst, arith}
-use Rattle.std.specs.List.{All, Contains}
+use Rattle.std.proofs.Common.{◌≡◌, ℕ, ◌≤◌, List, length, get_or, Some, sym, ap, ◌∙◌, subst, arith}
+use Rattle.std.specs.List.{All}
 use Rattle.std.proofs.lemmas.List.Elements.{All-contains, Contains-get_or}
 use Rattle.mz_board.specs.Chair as lock
 use Rattle.mz_board.specs.Chair.{BoardId, ChairState, Learns}
-use Rattle.mz_board.specs.Seen.{Begins, GrewByOthers}
+use Rattle.mz_board.specs.Seen.{GrewByOthers}
 use Rattle.mz_model.specs.declared.score.Score.{Score}
 use Rattle.mz_history.specs.declared.entry.Entry.{Entry}
-use Rattle.mz_history.specs.History.{entries_of_seat}
 use Rattle.mz_state.specs.Closed.{IsClosed}
 use Rattle.mz_state.specs.Kept.{KeptState}
 use Rattle.mz_store.specs.declared.held.Held.{Held}

@@ -1,9 +1,9 @@
 -- What a commit leaves of a pass.
-use Rattle.std.proofs.Common.{◌≡◌, ◌≢◌, ℕ, ◌+◌, ◌<◌, ◌≤◌, List, [], ◌∷◌, ◌++◌, length, Option, None, Some, refl, sym, ap, ◌∙◌, subst, arith}
+use Rattle.std.proofs.Common.{◌≡◌, ℕ, ◌+◌, ◌≤◌, List, [], ◌++◌, length, Option, None, refl, sym, ap, ◌∙◌, subst, arith}
 use Rattle.std.specs.List.{All}
 use Rattle.std.proofs.lemmas.List.Elements.{All-cons, All-nil, All-weaker}
 use Rattle.std.proofs.lemmas.Option.{none-some}
-use Rattle.mz_board.specs.Chair.{BoardId, ChairState, Takes, with_turn}
+use Rattle.mz_board.specs.Chair.{ChairState, Takes, with_turn}
 use Rattle.mz_board.specs.Seen.{GrewByOthers}
 use Rattle.mz_draw.specs.declared.draw.Draw.{Draw}
 use Rattle.mz_draw.specs.Draws.{draw_at}
@@ -27,11 +27,11 @@ use Rattle.mz_store.specs.declared.verdict.Verdict.{Verdict}
 use Rattle.mz_store.specs.contracts.held.HeldStory.TheImpl.{ghosts}
 use Rattle.mz_store.specs.declared.verdict.TryVerdict.{TryVerdict}
 use Rattle.mz_store.specs.declared.verdict.Verdict.TheVariants.{Again, Decided, Full}
-use Rattle.mz_store.specs.Commits.{Commits, CommitsAtOnce, Finds, Tries}
+use Rattle.mz_store.specs.Commits.{Commits, CommitsAtOnce, Tries}
 use Rattle.mz_store.specs.Pass.{draw_of, IsPass, pass_of, PassState, Room}
 use Rattle.mz_store.specs.RunSetting.{run_of, RunSetting}
 use Rattle.mz_store.specs.Store.{IsStore, StoreState}
-use Rattle.mz_store.specs.Told.{seat_of, told_all, untold}
+use Rattle.mz_store.specs.Told.{told_all, untold}
 use Rattle.mz_store.specs.Turns.{Decides, ended}
 use Rattle.mz_store.specs.Verdict.{added, answer_of, try_of, verdict_on}
 use Rattle.mz_store.proofs.AppendLaws.{run-is}

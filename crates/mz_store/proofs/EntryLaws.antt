@@ -1,17 +1,14 @@
 -- The entry of a judged move: what it is, what it writes, and that it may be appended.
-use Rattle.std.proofs.Common.{◌≡◌, ℕ, ◌+◌, ◌<◌, ◌≤◌, ◌^◌, Bool, true, false, cond, not, List, [], ◌∷◌, ◌++◌, length, length-append, get_or, map, Option, Some, refl, sym, ap, ◌∙◌, subst, arith, inl, inr}
-use Rattle.std.specs.Prelude.{◌&&◌, ◌==◌, IsTrue, if◌then◌else◌, nat_le, nat_lt, slice_index}
+use Rattle.std.proofs.Common.{◌≡◌, ℕ, ◌+◌, ◌<◌, ◌^◌, Bool, true, false, cond, not, List, [], ◌∷◌, ◌++◌, get_or, map, refl, sym, ap, ◌∙◌, subst, arith, inl, inr}
+use Rattle.std.specs.Prelude.{◌&&◌, ◌==◌, if◌then◌else◌, nat_le, nat_lt, slice_index}
 use Rattle.std.specs.List.{All, filter}
 use Rattle.std.proofs.lemmas.Bool.{cases_Bool, le-leb, lt-ltb}
 use Rattle.std.proofs.lemmas.Bool.Decides.{nat_tests}
 use Rattle.std.proofs.lemmas.List.Elements.{All-cons, All-filter, All-map, All-nil}
-use Rattle.mz_board.specs.Chair.{BoardId, ChairState, Fitting, MayAppend, with_entry}
-use Rattle.mz_draw.specs.declared.draw.Draw.{Draw}
 use Rattle.mz_model.specs.declared.parts.Parts.{Parts}
 use Rattle.mz_model.specs.Items.{Item, row_item, unit_item}
 use Rattle.mz_model.specs.Move.{moved_plan}
 use Rattle.mz_model.specs.Parts.{target_count, unit_count, zone_count}
-use Rattle.mz_model.specs.Plans.{IsLegalPlan}
 use Rattle.mz_model.specs.Targets.{gain_of, held_of, touched_rows}
 use Rattle.mz_model.specs.Valid.{IsValid}
 use Rattle.mz_model.specs.Zones.{is_allowed}
@@ -22,7 +19,7 @@ use Rattle.mz_model.proofs.ZoneLaws.{is_allowed-in_range, step_of-allowed}
 use Rattle.mz_delta.specs.declared.judged.Judged.{Judged}
 use Rattle.mz_delta.proofs.MoveLaws.{moved-own}
 use Rattle.mz_history.specs.declared.entry.Entry.{Entry}
-use Rattle.mz_history.specs.Core.{entry_of_seat, next_draw, seats_of}
+use Rattle.mz_history.specs.Core.{entry_of_seat, next_draw}
 use Rattle.mz_history.specs.Entry.{drawn_zone}
 use Rattle.mz_history.specs.Items.{changes, value_of_item}
 use Rattle.mz_history.specs.Moves.{IsMove}
@@ -30,16 +27,11 @@ use Rattle.mz_history.specs.Replay.{IsLegalHistory, plan_of_history, Setting}
 use Rattle.mz_history.proofs.HistoryLaws.{legal-push, plan-push}
 use Rattle.mz_history.proofs.LegalHistoryLaws.{after-accepted, last_plan-legal}
 use Rattle.mz_state.specs.Kept.{IsKept, KeptState}
-use Rattle.mz_state.specs.NextMove.{IsMoveOf, IsNextMove}
-use Rattle.mz_store.specs.declared.told.Told.{Told}
-use Rattle.mz_store.specs.RunSetting.{RunSetting, run_of}
-use Rattle.mz_store.specs.Store.{IsStore, StoreState}
-use Rattle.mz_store.specs.Told.{changed_items, told, told_all, writes_of}
-use Rattle.mz_store.specs.Turns.{HasTurn, move_writes, row_writes}
+use Rattle.mz_state.specs.NextMove.{IsNextMove}
+use Rattle.mz_store.specs.Told.{changed_items, writes_of}
+use Rattle.mz_store.specs.Turns.{move_writes, row_writes}
 use Rattle.mz_store.specs.Words.{IsItem, may_have, word_of_item}
 use Rattle.mz_store.proofs.ChangeLaws.{row-writes-are}
-use Rattle.mz_store.proofs.StoreLaws.{length-words}
-use Rattle.mz_store.proofs.ToldLaws.{length-told, told-push}
 use Rattle.mz_store.proofs.WordLaws.{accepted-writes, refused-writes}
 
 -- ---- the entry

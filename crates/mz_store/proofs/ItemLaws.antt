@@ -1,6 +1,6 @@
 -- Items: what entries change, and the value that an item keeps.
-use Rattle.std.proofs.Common.{◌≡◌, ℕ, ◌+◌, ◌<◌, ◌≤◌, Bool, true, false, List, [], ◌∷◌, ◌++◌, length, refl, sym, ap, ◌∙◌, subst, arith, inl, inr, get_or-set_other}
-use Rattle.std.specs.Prelude.{◌&&◌, ◌==◌, not, IsTrue, slice_index}
+use Rattle.std.proofs.Common.{◌≡◌, ℕ, ◌<◌, true, false, List, [], ◌∷◌, ◌++◌, sym, ap, ◌∙◌, arith, inl, inr, get_or-set_other}
+use Rattle.std.specs.Prelude.{◌&&◌, ◌==◌, not, slice_index}
 use Rattle.std.specs.List.{Contains}
 use Rattle.std.proofs.Math.Seq.{set_out}
 use Rattle.std.proofs.lemmas.Bool.{cases_Bool, cases_eq, eq-eqb, false≢true, ne_eqb}
@@ -9,7 +9,7 @@ use Rattle.mz_num.proofs.PlaceLaws.{places_below-has}
 use Rattle.mz_model.specs.declared.parts.Parts.{Parts}
 use Rattle.mz_model.specs.Items.{Item, row_item, unit_item}
 use Rattle.mz_model.specs.Move.{moved_plan}
-use Rattle.mz_model.specs.Parts.{target_count, unit_count, zone_count}
+use Rattle.mz_model.specs.Parts.{target_count, unit_count}
 use Rattle.mz_model.specs.Plans.{IsLegalPlan}
 use Rattle.mz_model.specs.Targets.{gain_of, is_touched, touched_rows}
 use Rattle.mz_model.specs.Valid.{IsValid}

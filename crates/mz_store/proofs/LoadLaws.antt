@@ -1,18 +1,14 @@
 -- Loads of words, one after another.
-use Rattle.std.proofs.Common.{◌≡◌, ℕ, zero, suc, ◌+◌, ◌<◌, ◌≤◌, ◌^◌, Bool, true, List, [], ◌∷◌, ◌++◌, length, get_or, map, take, reverse, Option, Some, refl, sym, ap, ◌∙◌, subst, arith, append_assoc}
-use Rattle.std.specs.Prelude.{IsTrue, nat_le, nat_lt, slice_index}
-use Rattle.std.specs.List.{All, zip}
-use Rattle.std.proofs.lemmas.List.{length-append, length-map, length-take, reverse-append, take_all, take_more}
-use Rattle.mz_board.specs.Chair.{BoardId, ChairState, with_front, with_item}
+use Rattle.std.proofs.Common.{◌≡◌, ℕ, ◌+◌, ◌<◌, ◌≤◌, List, [], ◌∷◌, ◌++◌, length, get_or, map, take, refl, sym, ap, ◌∙◌, subst, arith}
+use Rattle.std.specs.List.{zip}
+use Rattle.std.proofs.lemmas.List.{length-append, reverse-append, take_all, take_more}
+use Rattle.mz_board.specs.Chair.{ChairState, with_item}
 use Rattle.mz_model.specs.declared.neighbour.Neighbour.{Neighbour}
 use Rattle.mz_model.specs.declared.parts.Parts.{Parts}
-use Rattle.mz_model.specs.Boundary.{neighbours_of}
-use Rattle.mz_model.specs.Items.{Item, items_of, row_item, unit_item}
-use Rattle.mz_model.specs.Parts.{target_count, unit_count}
-use Rattle.mz_model.specs.Targets.{touched_rows}
-use Rattle.mz_model.specs.Zones.{is_allowed}
-use Rattle.mz_store.specs.Loads.{places_around, rows_of, with_items}
-use Rattle.mz_store.specs.Words.{may_have, word_of_item}
+use Rattle.mz_model.specs.Items.{Item, row_item, unit_item}
+use Rattle.mz_model.specs.Parts.{unit_count}
+use Rattle.mz_store.specs.Loads.{with_items}
+use Rattle.mz_store.specs.Words.{word_of_item}
 
 -- ---- lists
 

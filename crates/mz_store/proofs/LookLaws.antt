@@ -1,33 +1,24 @@
 -- A look: the loads of a reading's items, and what they leave of a pass.
-use Rattle.std.proofs.Common.{◌≡◌, ℕ, zero, suc, ◌+◌, ◌<◌, ◌≤◌, ◌^◌, Bool, true, List, [], ◌∷◌, ◌++◌, length, get_or, map, take, reverse, Option, Some, refl, sym, ap, ◌∙◌, subst, arith, append_assoc, inl, inr}
+use Rattle.std.proofs.Common.{◌≡◌, ℕ, ◌+◌, ◌<◌, ◌≤◌, List, [], ◌∷◌, ◌++◌, length, get_or, take, sym, ap, ◌∙◌, subst, arith, inl, inr}
 use Rattle.std.specs.Prelude.{IsTrue, slice_index}
-use Rattle.std.specs.List.{All, zip}
 use Rattle.std.proofs.Math.Seq.{get_or-append_seam}
 use Rattle.std.proofs.lemmas.Bool.Decides.{leb_tells}
-use Rattle.std.proofs.lemmas.List.{get_or_append_left, get_or-map, get_or_default, length-map, length-take-le, reverse-append}
-use Rattle.mz_board.specs.Chair.{BoardId, ChairState, with_front, with_item}
+use Rattle.std.proofs.lemmas.List.{get_or_append_left, get_or-map, get_or_default, length-map, length-take-le}
+use Rattle.mz_board.specs.Chair.{ChairState, with_item}
 use Rattle.mz_model.specs.declared.neighbour.Neighbour.{Neighbour}
 use Rattle.mz_model.specs.declared.parts.Parts.{Parts}
 use Rattle.mz_model.specs.declared.touch.Touch.{Touch}
 use Rattle.mz_model.specs.Boundary.{neighbours_of, no_neighbour}
-use Rattle.mz_model.specs.Items.{Item, items_of, row_item, unit_item}
 use Rattle.mz_model.specs.Parts.{unit_count}
 use Rattle.mz_model.specs.Targets.{touched_rows, touches_of}
 use Rattle.mz_model.specs.Zones.{is_allowed}
 use Rattle.mz_model.proofs.TouchLaws.{length-touches_of}
-use Rattle.mz_delta.specs.declared.reading.Reading.{Reading}
-use Rattle.mz_delta.specs.Reading.{IsWellFormed, neighbour_at}
+use Rattle.mz_delta.specs.Reading.{neighbour_at}
 use Rattle.mz_delta.specs.Rooms.{greatest_degree, greatest_touched}
 use Rattle.mz_delta.proofs.RoomLaws.{degree-le, touched-le}
 use Rattle.mz_state.proofs.MoveRowLaws.{row-at}
-use Rattle.mz_store.specs.declared.told.Told.{Told}
-use Rattle.mz_store.specs.Loads.{AreZonesAround, places_around, rows_of, with_items}
-use Rattle.mz_store.specs.Looks.{IsLoaded, loads_of}
-use Rattle.mz_store.specs.Pass.{IsPass, Looks, pass_of, PassState}
-use Rattle.mz_store.specs.RunSetting.{RunSetting}
-use Rattle.mz_store.specs.Store.{IsStore, StoreState}
-use Rattle.mz_store.proofs.LoadLaws.{HasLoaded, loaded-all, loaded-more, zip-around}
-use Rattle.mz_store.proofs.StoreLaws.{run-known}
+use Rattle.mz_store.specs.Loads.{AreZonesAround, places_around, rows_of}
+use Rattle.mz_store.proofs.LoadLaws.{HasLoaded, loaded-all, loaded-more}
 
 -- ---- rooms
 

@@ -1,12 +1,10 @@
 -- Passes that meet.
-use Rattle.std.proofs.Common.{◌≡◌, ℕ, ◌+◌, ◌<◌, ◌≤◌, List, [], ◌∷◌, ◌++◌, length, length-append, max, Option, None, Some, refl, sym, ap, ◌∙◌, subst, arith, append-nil}
-use Rattle.std.specs.List.{All}
+use Rattle.std.proofs.Common.{◌≡◌, ℕ, ◌≤◌, List, [], ◌∷◌, ◌++◌, length, length-append, max, Option, None, refl, sym, ap, ◌∙◌, subst, arith, append-nil}
 use Rattle.std.proofs.lemmas.Option.{none-some}
-use Rattle.mz_board.specs.Chair.{BoardId, ChairState, counted, joined, Learns, note_of_chair, NoteState}
+use Rattle.mz_board.specs.Chair.{ChairState, counted, joined, Learns, note_of_chair, NoteState}
 use Rattle.mz_board.specs.Seen.{Begins, GrewByOthers, longer}
-use Rattle.mz_board.proofs.SeenLemmas.{begins_length, begins_longer, longer_left, longer_most, longer_right}
+use Rattle.mz_board.proofs.SeenLemmas.{begins_longer, longer_left, longer_most, longer_right}
 use Rattle.mz_delta.specs.declared.reading.Reading.{Reading}
-use Rattle.mz_history.specs.declared.entry.Entry.{Entry}
 use Rattle.mz_store.specs.declared.told.Told.{Told}
 use Rattle.mz_store.specs.Leaves.{Meets}
 use Rattle.mz_store.specs.Pass.{IsPass, pass_of, PassState, Room}

@@ -1,6 +1,6 @@
 -- The opening: its words, and a pass for each chair.
-use Rattle.std.proofs.Common.{◌≡◌, ℕ, ◌+◌, ◌<◌, ◌≤◌, ◌^◌, Bool, true, false, List, [], ◌∷◌, ◌++◌, length, length-append, get_or, Option, None, Some, refl, sym, ap, ◌∙◌, subst, arith, inl, inr, ◌-◌}
-use Rattle.std.specs.Prelude.{if◌then◌else◌, nat_le, nat_lt, slice_get, slice_index, slice_index_or}
+use Rattle.std.proofs.Common.{◌≡◌, ℕ, ◌+◌, ◌<◌, ◌≤◌, ◌^◌, true, false, List, [], ◌∷◌, ◌++◌, length, length-append, get_or, None, Some, refl, sym, ap, ◌∙◌, subst, arith, inl, inr, ◌-◌}
+use Rattle.std.specs.Prelude.{if◌then◌else◌, nat_le, nat_lt, slice_get, slice_index_or}
 use Rattle.std.proofs.lemmas.Bool.{le-leb, lt-ltb}
 use Rattle.std.proofs.lemmas.Bool.Decides.{leb_tells, nat_tests}
 use Rattle.std.proofs.lemmas.List.{get_or_append_left, get_or-append_right}
@@ -16,7 +16,7 @@ use Rattle.mz_model.proofs.ScoreLaws.{plan-in_range}
 use Rattle.mz_model.proofs.TargetLaws.{held_of-le}
 use Rattle.mz_delta.specs.declared.reading.Reading.{Reading}
 use Rattle.mz_delta.specs.Reading.{totals_of_plan}
-use Rattle.mz_delta.proofs.ReadLaws.{length-totals_of_plan, totals_of_plan-at}
+use Rattle.mz_delta.proofs.ReadLaws.{totals_of_plan-at}
 use Rattle.mz_history.specs.Replay.{Setting}
 use Rattle.mz_history.specs.Start.{starting_plan}
 use Rattle.mz_history.proofs.LegalHistoryLaws.{last_plan-legal, legal-none}

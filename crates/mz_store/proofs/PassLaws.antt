@@ -1,13 +1,12 @@
 -- What a look leaves of a pass.
-use Rattle.std.proofs.Common.{◌≡◌, ℕ, suc, ◌+◌, ◌<◌, ◌≤◌, ◌^◌, List, [], ◌∷◌, ◌++◌, length, map, reverse, Option, Some, refl, sym, ap, ◌∙◌, subst, arith, append_assoc}
+use Rattle.std.proofs.Common.{◌≡◌, ℕ, ◌+◌, ◌<◌, ◌≤◌, ◌^◌, List, [], ◌∷◌, ◌++◌, length, reverse, Option, Some, refl, sym, ap, ◌∙◌, subst, arith, append_assoc}
 use Rattle.std.specs.Prelude.{IsTrue}
 use Rattle.std.specs.List.{All, zip}
 use Rattle.std.proofs.lemmas.List.{reverse-append}
-use Rattle.mz_board.specs.Chair.{BoardId, ChairState, with_front, with_item}
-use Rattle.mz_model.specs.declared.neighbour.Neighbour.{Neighbour}
+use Rattle.mz_board.specs.Chair.{ChairState, with_front, with_item}
 use Rattle.mz_model.specs.declared.parts.Parts.{Parts}
 use Rattle.mz_model.specs.Boundary.{neighbours_of}
-use Rattle.mz_model.specs.Items.{Item, items_of, row_item, unit_item}
+use Rattle.mz_model.specs.Items.{items_of}
 use Rattle.mz_model.specs.Parts.{unit_count}
 use Rattle.mz_model.specs.Targets.{touched_rows}
 use Rattle.mz_model.specs.Zones.{is_allowed}

@@ -1,16 +1,15 @@
 -- Readings whose items were loaded one by one are right for the journal that the turn finds.
-use Rattle.std.proofs.Common.{◌≡◌, ℕ, zero, suc, ◌+◌, ◌-◌, ◌<◌, ◌≤◌, ◌⊎◌, Bool, true, false, List, [], ◌∷◌, ◌++◌, length, length-append, get_or, map, take, drop, reverse, Option, None, Some, refl, sym, ap, ◌∙◌, subst, arith, inl, inr}
+use Rattle.std.proofs.Common.{◌≡◌, ℕ, zero, suc, ◌+◌, ◌-◌, ◌<◌, ◌≤◌, true, false, List, [], ◌∷◌, ◌++◌, length, length-append, get_or, map, take, drop, reverse, None, sym, ap, ◌∙◌, subst, arith, inl, inr}
 use Rattle.std.specs.List.{All, list_any, zip}
 use Rattle.std.proofs.Math.Seq.{get_or-append_seam, take-length}
 use Rattle.std.proofs.lemmas.Bool.{cases_Bool, false≢true}
 use Rattle.std.proofs.lemmas.List.{get_or-drop, get_or-map, get_or-reverse, length-drop, length-map, length-reverse}
-use Rattle.std.proofs.lemmas.List.Elements.{All-append, All-cons, All-map, All-weaker}
+use Rattle.std.proofs.lemmas.List.Elements.{All-append, All-cons, All-map}
 use Rattle.std.proofs.lemmas.List.Folds.{list_any_at}
 use Rattle.std.proofs.lemmas.Option.{none-some}
 use Rattle.mz_board.specs.declared.post.Post.{Post}
 use Rattle.mz_board.specs.Chair.{Reads}
-use Rattle.mz_board.specs.Items.{IsWrittenFrom, ReadOk, value_after, word_of, written}
-use Rattle.mz_draw.specs.declared.draw.Draw.{Draw}
+use Rattle.mz_board.specs.Items.{IsWrittenFrom, ReadOk, written}
 use Rattle.mz_model.specs.declared.neighbour.Neighbour.{Neighbour}
 use Rattle.mz_model.specs.declared.parts.Parts.{Parts}
 use Rattle.mz_model.specs.Boundary.{neighbours_of}
@@ -35,7 +34,7 @@ use Rattle.mz_state.specs.NextMove.{IsMoveOf, IsNextMove}
 use Rattle.mz_state.proofs.CommitLaws.{commit-moves}
 use Rattle.mz_store.specs.declared.told.Told.{Told}
 use Rattle.mz_store.specs.Looks.{IsLoaded, loads_of}
-use Rattle.mz_store.specs.Told.{told, told_all, untold, writes, writes_of}
+use Rattle.mz_store.specs.Told.{told_all, untold, writes}
 use Rattle.mz_store.specs.Words.{IsItem, opening_words, word_of_item}
 use Rattle.mz_store.proofs.ToldLaws.{length-untold, told-split}
 use Rattle.mz_store.proofs.WordLaws.{words-follow, written-same}

@@ -1,16 +1,14 @@
 -- The published words: what entries write into them, and what they are after a journal.
-use Rattle.std.proofs.Common.{◌≡◌, ℕ, zero, suc, ◌+◌, ◌<◌, ◌≤◌, Bool, true, false, cond, eqb, List, [], ◌∷◌, ◌++◌, length, length-append, get_or, map, Option, None, Some, unwrap_or, refl, sym, ap, ◌∙◌, subst, arith, inl, inr}
-use Rattle.std.specs.Prelude.{◌&&◌, ◌==◌, slice_index, slice_index_or}
-use Rattle.std.specs.List.{All, Contains, filter}
+use Rattle.std.proofs.Common.{◌≡◌, ℕ, zero, suc, ◌+◌, ◌<◌, Bool, true, false, cond, List, [], ◌∷◌, ◌++◌, length, length-append, get_or, map, Option, None, Some, unwrap_or, refl, sym, ap, ◌∙◌, subst, arith, inl, inr}
+use Rattle.std.specs.Prelude.{◌&&◌, ◌==◌, slice_index_or}
+use Rattle.std.specs.List.{All, filter}
 use Rattle.std.proofs.lemmas.Bool.{cases_Bool, cases_eq, eq-eqb, false≢true, ne_eqb}
 use Rattle.std.proofs.lemmas.List.{get_or_append_left, get_or-append-add}
 use Rattle.std.proofs.Math.Seq.{get_or-append_seam}
-use Rattle.std.proofs.lemmas.List.Elements.{All-nil}
 use Rattle.mz_board.specs.Items.{value_after, word_of, written}
 use Rattle.mz_board.proofs.ItemLemmas.{value_push}
-use Rattle.mz_model.specs.declared.parts.Parts.{Parts}
 use Rattle.mz_model.specs.Items.{Item, row_item, unit_item}
-use Rattle.mz_model.specs.Parts.{target_count, unit_count}
+use Rattle.mz_model.specs.Parts.{unit_count}
 use Rattle.mz_model.specs.Targets.{touched_rows}
 use Rattle.mz_model.specs.Valid.{IsValid}
 use Rattle.mz_delta.specs.Reading.{totals_of_plan}
@@ -18,11 +16,10 @@ use Rattle.mz_delta.proofs.ReadLaws.{totals_of_plan-at}
 use Rattle.mz_history.specs.declared.entry.Entry.{Entry}
 use Rattle.mz_history.specs.Items.{changes, value_of_item}
 use Rattle.mz_history.specs.Moves.{IsMove}
-use Rattle.mz_history.specs.Replay.{IsLegalHistory, plan_of_history, Setting}
+use Rattle.mz_history.specs.Replay.{IsLegalHistory, Setting}
 use Rattle.mz_history.specs.Start.{starting_plan}
 use Rattle.mz_history.proofs.LegalHistoryLaws.{IsLegalStep, last_plan-legal, legal-induction, legal-none}
-use Rattle.mz_store.specs.declared.told.Told.{Told}
-use Rattle.mz_store.specs.Told.{changed_items, told, told_all, WordsFollow, writes, writes_of}
+use Rattle.mz_store.specs.Told.{told, told_all, WordsFollow, writes, writes_of}
 use Rattle.mz_store.specs.Words.{IsItem, opening_words, word_of_item}
 use Rattle.mz_store.proofs.ItemLaws.{changed-accepted, changed-touched, changed-unit, step-keeps}
 use Rattle.mz_store.proofs.ToldLaws.{told-push}

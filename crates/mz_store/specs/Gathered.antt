@@ -1,5 +1,5 @@
 -- The chairs of passes.
-use Rattle.std.specs.Prelude.{◌≡◌, ℕ, List, None}
+use Rattle.std.specs.Prelude.{◌≡◌, List, None}
 use Rattle.std.specs.List.{All, Contains}
 use Rattle.mz_board.specs.Chair.{BoardId, ChairState}
 use Rattle.mz_store.specs.declared.told.Told.{Told}

@@ -1,5 +1,5 @@
 -- Readings whose items are loaded one by one.
-use Rattle.std.specs.Prelude.{reverse, ◌≡◌, ◌+◌, ◌≤◌, ℕ, List, map, Option, Some}
+use Rattle.std.specs.Prelude.{reverse, ◌≡◌, ℕ, List, map, Some}
 use Rattle.mz_board.specs.declared.post.Post.{Post}
 use Rattle.mz_model.specs.declared.parts.Parts.{Parts}
 use Rattle.mz_model.specs.Items.{Item}

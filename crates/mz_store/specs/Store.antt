@@ -1,5 +1,5 @@
 -- What contracts see of a store, and what its type keeps.
-use Rattle.std.specs.Prelude.{◌≡◌, ◌≤◌, ℕ, Some}
+use Rattle.std.specs.Prelude.{◌≡◌, ◌≤◌, Some}
 use Rattle.mz_num.specs.Limits.{most_proposals, most_workers}
 use Rattle.mz_board.specs.Chair.{BoardId}
 use Rattle.mz_model.specs.Valid.{IsValid}

@@ -12,7 +12,6 @@ use Rattle.mz_state.specs.Kept.{IsKept, KeptState}
 use Rattle.mz_state.specs.Looks.{IsRightFor}
 use Rattle.mz_store.specs.declared.store.commits.Turn.{Turn}
 use Rattle.mz_store.specs.RunSetting.{RunSetting}
-use Rattle.mz_store.specs.Told.{told_all}
 use Rattle.mz_store.specs.Verdict.{added, answer_of, verdict_on}
 
 -- the chair has taken the list, and has appended nothing

@@ -1,11 +1,8 @@
-use Rattle.std.proofs.Common.{ℕ, ◌≡◌, ◌<◌, get_or, length, refl, arith, rules, ap, ◌∙◌, sym}
+use Rattle.std.proofs.Common.{◌≡◌, ◌<◌, get_or, length, refl, arith, rules, ap, ◌∙◌}
 use Rattle.std.proofs.lemmas.Iterator.Adapters.{YieldsList-from_vec}
 use Rattle.std.proofs.lemmas.Iterator.Consumers.{YieldsList-end, YieldsList-turn}
 use Rattle.mz_num.proofs.PlaceLaws.{length-list_below}
-use Rattle.mz_board.specs.Chair.{ChairState}
-use Rattle.mz_store.specs.declared.told.Told.{Told}
 use Rattle.mz_store.specs.Pass.{fresh_pass}
-use Rattle.mz_store.specs.RunSetting.{RunSetting}
 use Rattle.mz_store.proofs.OpenLaws.{all-passes, made-pass, more-passes}
 use Rattle.mz_store.proofs.store.passes_of.Goals as goal
 

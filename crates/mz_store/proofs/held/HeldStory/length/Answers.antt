@@ -1,6 +1,5 @@
 use Rattle.std.proofs.Common.{ap, length, sym, ◌∙◌}
 use Rattle.mz_state.specs.Kept.{KeptState}
-use Rattle.mz_store.proofs.CrossingLaws.{stores_cross}
 use Rattle.mz_store.proofs.ToldLaws.{length-told}
 use Rattle.mz_store.proofs.held.HeldStory.length.Goals as goal
 

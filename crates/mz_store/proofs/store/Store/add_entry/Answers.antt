@@ -1,4 +1,4 @@
-use Rattle.std.proofs.Common.{◌∙◌, ap, refl}
+use Rattle.std.proofs.Common.{◌∙◌, ap}
 use Rattle.mz_board.specs.Chair.{ChairState}
 use Rattle.mz_store.specs.declared.told.Told.{Told}
 use Rattle.mz_store.specs.RunSetting.{RunSetting}

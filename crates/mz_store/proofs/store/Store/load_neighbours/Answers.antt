@@ -1,8 +1,7 @@
-use Rattle.std.proofs.Common.{ap, sym, arith}
-use Rattle.mz_model.specs.declared.parts.Parts.{Parts}
+use Rattle.std.proofs.Common.{ap}
 use Rattle.mz_store.specs.Loads.{places_around}
 use Rattle.mz_store.specs.Store.{StoreState}
-use Rattle.mz_store.proofs.LookLaws.{all-zones, few-neighbours, near-count, next-zone, room-left, zones-around}
+use Rattle.mz_store.proofs.LookLaws.{few-neighbours, near-count, next-zone, room-left}
 use Rattle.mz_store.proofs.store.Store.load_neighbours.Goals as goal
 
 pub push-requires : goal.push-requires

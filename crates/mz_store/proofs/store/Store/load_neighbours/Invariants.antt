@@ -1,4 +1,4 @@
-use Rattle.std.proofs.Common.{◌≡◌, ◌<◌, ◌≤◌, ℕ, take}
+use Rattle.std.proofs.Common.{◌<◌, ◌≤◌, ℕ, take}
 use Rattle.std.specs.Prelude.{IsTrue, slice_index}
 use Rattle.mz_model.specs.Zones.{is_allowed}
 use Rattle.mz_delta.specs.Reading.{neighbour_at}

@@ -1,9 +1,8 @@
-use Rattle.std.proofs.Common.{◌≤◌, ◌^◌, ap, sym, arith, subst}
-use Rattle.std.specs.List.{All}
+use Rattle.std.proofs.Common.{◌≤◌, ◌^◌, ap, arith}
 use Rattle.std.proofs.lemmas.List.Elements.{All-push}
 use Rattle.mz_store.specs.Loads.{rows_of}
 use Rattle.mz_store.specs.Store.{StoreState}
-use Rattle.mz_store.proofs.LookLaws.{all-totals, few-rows, next-total, room-left, touch-count}
+use Rattle.mz_store.proofs.LookLaws.{few-rows, next-total, room-left, touch-count}
 use Rattle.mz_store.proofs.store.Store.load_totals.Goals as goal
 
 pub push-requires : goal.push-requires

@@ -1,5 +1,5 @@
 use Rattle.std.proofs.Common.{arith}
-use Rattle.mz_store.proofs.StoreLaws.{may-zone, store-now, unit-word, run-known, zone-small}
+use Rattle.mz_store.proofs.StoreLaws.{store-now, unit-word, zone-small}
 use Rattle.mz_store.proofs.store.Store.load_zone.Goals as goal
 
 pub load_item-requires-clause-item : goal.load_item-requires-clause-item

@@ -1,7 +1,7 @@
-use Rattle.std.proofs.Common.{None, Some, [], ap, refl, ◌++◌, ◌∙◌, ◌∷◌}
+use Rattle.std.proofs.Common.{None, Some, [], ap, refl, ◌++◌, ◌∷◌}
 use Rattle.mz_board.specs.Chair.{ChairState}
 use Rattle.mz_store.specs.declared.told.Told.{Told}
-use Rattle.mz_store.specs.declared.verdict.Verdict.TheVariants.{Again, Decided, Full}
+use Rattle.mz_store.specs.declared.verdict.Verdict.TheVariants.{Again, Full}
 use Rattle.mz_store.specs.RunSetting.{RunSetting}
 use Rattle.mz_store.specs.Told.{told_all}
 use Rattle.mz_store.proofs.StoreLaws.{store-now}
