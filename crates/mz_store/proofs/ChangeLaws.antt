@@ -1,0 +1,120 @@
+-- What a judged move writes, and how it is stored word by word.
+use Rattle.std.proofs.Common.{◌≡◌, ◌≢◌, ℕ, ◌+◌, ◌<◌, Bool, true, false, cond, not, List, [], ◌∷◌, length, get_or, map, drop, Some, refl, sym, ap, ◌∙◌, arith, inl, inr, add-one, drop-cons}
+use Rattle.std.specs.Prelude.{◌==◌, slice_index}
+use Rattle.std.specs.List.{All, filter}
+use Rattle.std.proofs.lemmas.Bool.{cases_Bool, eq-eqb, ne_eqb}
+use Rattle.std.proofs.lemmas.List.{get_or_default, get_or-drop, length-drop}
+use Rattle.std.proofs.lemmas.List.Elements.{All-cons, All-head, All-nil, All-tail}
+use Rattle.mz_board.specs.Chair.{ChairState, with_stored}
+use Rattle.mz_board.specs.Items.{without, written}
+use Rattle.mz_num.proofs.PlaceLaws.{places_below-rising}
+use Rattle.mz_model.specs.declared.parts.Parts.{Parts}
+use Rattle.mz_model.specs.Parts.{target_count, unit_count}
+use Rattle.mz_model.specs.Targets.{gain_of, is_touched, touched_rows}
+use Rattle.mz_delta.specs.declared.judged.Judged.{Judged}
+use Rattle.mz_store.specs.Turns.{move_writes, row_writes, with_owes}
+
+-- ---- words that are no longer owed
+
+without-absent : (word : ℕ) (ws : List (ℕ × ℕ)) → All (λ (w : ℕ × ℕ). w.0 ≢ word) ws → without word ws ≡ ws
+without-absent word [] apart = refl
+without-absent word (w ∷ ws) apart =
+    ap (λ b. cond (not b) (w ∷ without word ws) (without word ws)) (ne_eqb w.0 word (All-head (λ (w : ℕ × ℕ). w.0 ≢ word) w ws apart))
+    ∙ ap (λ (vs : List (ℕ × ℕ)). w ∷ vs) (without-absent word ws (All-tail (λ (w : ℕ × ℕ). w.0 ≢ word) w ws apart))
+
+pub without-first : (word value : ℕ) (ws : List (ℕ × ℕ)) → All (λ (w : ℕ × ℕ). w.0 ≢ word) ws → without word ((word, value) ∷ ws) ≡ ws
+without-first word value ws apart = ap (λ b. cond (not b) ((word, value) ∷ without word ws) (without word ws)) (eq-eqb word word refl) ∙ without-absent word ws apart
+
+pub written-first : (word value : ℕ) (ws : List (ℕ × ℕ)) → written word ((word, value) ∷ ws) ≡ Some value
+written-first word value ws = ap (λ b. cond b (Some value) (written word ws)) (eq-eqb word word refl)
+
+module _ (parts : Parts) (unit from to : ℕ) where
+  abbrev differs : ℕ → Bool
+  differs row = not (gain_of parts row unit from == gain_of parts row unit to)
+
+  row-words : (P : ℕ → Type 0) (rows totals : List ℕ) → All (λ row. P (unit_count parts + row)) rows → All (λ (w : ℕ × ℕ). P w.0) (row_writes parts unit from to rows totals)
+  row-words P [] totals all = All-nil (λ (w : ℕ × ℕ). P w.0)
+  row-words P (row ∷ rows) [] all = All-nil (λ (w : ℕ × ℕ). P w.0)
+  row-words P (row ∷ rows) (total ∷ totals) all =
+      let rest = row-words P rows totals (All-tail (λ row. P (unit_count parts + row)) row rows all) in
+      elim (differs row) as (λ b. All (λ (w : ℕ × ℕ). P w.0) (cond b ((unit_count parts + row, total) ∷ row_writes parts unit from to rows totals) (row_writes parts unit from to rows totals))) [
+        | true ↦ All-cons (λ (w : ℕ × ℕ). P w.0) (unit_count parts + row, total) (row_writes parts unit from to rows totals) (All-head (λ row. P (unit_count parts + row)) row rows all) rest
+        | false ↦ rest
+      ]
+
+  later-rows : (i : ℕ) → i < length (touched_rows parts unit) → All (λ row. unit_count parts + row ≢ unit_count parts + get_or (touched_rows parts unit) i 0) (drop (i + 1) (touched_rows parts unit))
+  unfolding touched_rows
+  later-rows i within = λ k d h e.
+      let rows = touched_rows parts unit in
+      let near = length-drop (i + 1) rows in
+      let rises : get_or rows i d < get_or rows ((i + 1) + k) d = places_below-rising (target_count parts) (is_touched parts unit) i ((i + 1) + k) d (omega arith) (omega (arith, near, h)) in
+      let first = get_or_default rows i d 0 within in let later = get_or-drop (i + 1) rows k d in
+      omega (arith, rises, first, later, e)
+
+  -- the row at a place, and those behind it
+  pub row-owed : (i : ℕ) (totals : List ℕ) → i < length (touched_rows parts unit) → length totals ≡ length (touched_rows parts unit)
+      → row_writes parts unit from to (drop i (touched_rows parts unit)) (drop i totals) ≡ cond (differs (get_or (touched_rows parts unit) i 0))
+      ((unit_count parts + get_or (touched_rows parts unit) i 0, get_or totals i 0) ∷ row_writes parts unit from to (drop (i + 1) (touched_rows parts unit)) (drop (i + 1) totals))
+      (row_writes parts unit from to (drop (i + 1) (touched_rows parts unit)) (drop (i + 1) totals))
+  row-owed i totals within count =
+      let rows = touched_rows parts unit in
+      let first : drop i rows ≡ get_or rows i 0 ∷ drop (i + 1) rows = drop-cons rows i 0 within ∙ ap (λ n. get_or rows i 0 ∷ drop n rows) (sym (add-one i)) in
+      let second : drop i totals ≡ get_or totals i 0 ∷ drop (i + 1) totals = drop-cons totals i 0 (omega (arith, count)) ∙ ap (λ n. get_or totals i 0 ∷ drop n totals) (sym (add-one i)) in
+      ap (λ (rs : List ℕ). row_writes parts unit from to rs (drop i totals)) first ∙ ap (λ (ts : List ℕ). row_writes parts unit from to (get_or rows i 0 ∷ drop (i + 1) rows) ts) second
+
+  pub row-apart : (i : ℕ) (totals : List ℕ) → i < length (touched_rows parts unit) → All (λ (w : ℕ × ℕ). w.0 ≢ unit_count parts + get_or (touched_rows parts unit) i 0) (row_writes parts unit from to (drop (i + 1) (touched_rows parts unit)) (drop (i + 1) totals))
+  row-apart i totals within = row-words (λ n. n ≢ unit_count parts + get_or (touched_rows parts unit) i 0) (drop (i + 1) (touched_rows parts unit)) (drop (i + 1) totals) (later-rows i within)
+
+  -- no row's word is a unit's
+  pub unit-apart : (totals : List ℕ) → unit < unit_count parts → All (λ (w : ℕ × ℕ). w.0 ≢ unit) (row_writes parts unit from to (touched_rows parts unit) totals)
+  unit-apart totals within = row-words (λ n. n ≢ unit) (touched_rows parts unit) totals (λ k d h e. absurd (omega arith))
+
+  pub row-writes-are : (p : ℕ → Bool) (f : ℕ → ℕ) (rows : List ℕ) → ((row : ℕ) → p row ≡ differs row) → row_writes parts unit from to rows (map f rows) ≡ map (λ (row : ℕ). (unit_count parts + row, f row)) (filter p rows)
+  row-writes-are p f [] same = refl
+  row-writes-are p f (row ∷ rows) same =
+      let rest = row-writes-are p f rows same in elim (cases_Bool (differs row)) [
+        | inl moves ↦ ap (λ b. cond b ((unit_count parts + row, f row) ∷ row_writes parts unit from to rows (map f rows)) (row_writes parts unit from to rows (map f rows))) moves
+            ∙ ap (λ (ws : List (ℕ × ℕ)). (unit_count parts + row, f row) ∷ ws) rest
+            ∙ ap (λ b. map (λ (row : ℕ). (unit_count parts + row, f row)) (cond b (row ∷ filter p rows) (filter p rows))) (sym (same row ∙ moves))
+        | inr stays ↦ ap (λ b. cond b ((unit_count parts + row, f row) ∷ row_writes parts unit from to rows (map f rows)) (row_writes parts unit from to rows (map f rows))) stays
+            ∙ rest ∙ ap (λ b. map (λ (row : ℕ). (unit_count parts + row, f row)) (cond b (row ∷ filter p rows) (filter p rows))) (sym (same row ∙ stays))
+      ]
+
+-- ---- the step over a row
+
+module _ {E S : Type 0} where
+  pub row-stored : (parts parts' : Parts) (unit from to i word units place lost gained : ℕ) (totals : List ℕ) (before after : ChairState E S) → parts' ≡ parts → i < length (touched_rows parts unit) → length totals ≡ length (touched_rows parts unit)
+      → before.post.owes ≡ row_writes parts unit from to (drop i (touched_rows parts unit)) (drop i totals)
+      → lost ≡ gain_of parts' (slice_index (touched_rows parts' unit) i) unit from → gained ≡ gain_of parts' (slice_index (touched_rows parts' unit) i) unit to → lost ≢ gained
+      → units ≡ unit_count parts' → place ≡ slice_index (touched_rows parts' unit) i → word ≡ units + place → after ≡ with_stored before word
+      → after ≡ with_owes before (row_writes parts unit from to (drop (i + 1) (touched_rows parts unit)) (drop (i + 1) totals))
+  row-stored parts parts' unit from to i word units place lost gained totals before after same within count owes lost_is gained_is apart units_are place_is word_is stored =
+      let row = get_or (touched_rows parts unit) i 0 in
+      let rest = row_writes parts unit from to (drop (i + 1) (touched_rows parts unit)) (drop (i + 1) totals) in
+      let was : lost ≡ gain_of parts row unit from = lost_is ∙ ap (λ p. gain_of p (slice_index (touched_rows p unit) i) unit from) same in
+      let now : gained ≡ gain_of parts row unit to = gained_is ∙ ap (λ p. gain_of p (slice_index (touched_rows p unit) i) unit to) same in
+      let moves : differs parts unit from to row ≡ true = ap not (ne_eqb (gain_of parts row unit from) (gain_of parts row unit to) (λ e. apart (was ∙ e ∙ sym now))) in
+      let at : word ≡ unit_count parts + row = word_is ∙ ap (λ n. n + place) (units_are ∙ ap unit_count same) ∙ ap (λ n. unit_count parts + n) (place_is ∙ ap (λ p. slice_index (touched_rows p unit) i) same) in
+      let owed : before.post.owes ≡ (unit_count parts + row, get_or totals i 0) ∷ rest = owes ∙ row-owed parts unit from to i totals within count
+      ∙ ap (λ b. cond b ((unit_count parts + row, get_or totals i 0) ∷ rest) rest) moves in
+      stored ∙ ap (λ (ws : List (ℕ × ℕ)). with_owes before ws)
+      (ap (λ w. without w before.post.owes) at ∙ ap (without (unit_count parts + row)) owed ∙ without-first (unit_count parts + row) (get_or totals i 0) rest (row-apart parts unit from to i totals within))
+
+  pub row-passed : (parts parts' : Parts) (unit from to i lost gained : ℕ) (totals : List ℕ) (before : ChairState E S) → parts' ≡ parts → i < length (touched_rows parts unit) → length totals ≡ length (touched_rows parts unit)
+      → before.post.owes ≡ row_writes parts unit from to (drop i (touched_rows parts unit)) (drop i totals)
+      → lost ≡ gain_of parts' (slice_index (touched_rows parts' unit) i) unit from → gained ≡ gain_of parts' (slice_index (touched_rows parts' unit) i) unit to → lost ≡ gained
+      → before ≡ with_owes before (row_writes parts unit from to (drop (i + 1) (touched_rows parts unit)) (drop (i + 1) totals))
+  row-passed parts parts' unit from to i lost gained totals before same within count owes lost_is gained_is equal =
+      let row = get_or (touched_rows parts unit) i 0 in
+      let rest = row_writes parts unit from to (drop (i + 1) (touched_rows parts unit)) (drop (i + 1) totals) in
+      let was : lost ≡ gain_of parts row unit from = lost_is ∙ ap (λ p. gain_of p (slice_index (touched_rows p unit) i) unit from) same in
+      let now : gained ≡ gain_of parts row unit to = gained_is ∙ ap (λ p. gain_of p (slice_index (touched_rows p unit) i) unit to) same in
+      let stays : differs parts unit from to row ≡ false = ap not (eq-eqb (gain_of parts row unit from) (gain_of parts row unit to) (sym was ∙ equal ∙ now)) in
+      ap (λ (ws : List (ℕ × ℕ)). with_owes before ws) (owes ∙ row-owed parts unit from to i totals within count ∙ ap (λ b. cond b ((unit_count parts + row, get_or totals i 0) ∷ rest) rest) stays)
+
+  pub unit-stored : (parts : Parts) (judged : Judged) (before after : ChairState E S) → judged.unit < unit_count parts → before.post.owes ≡ move_writes parts judged true → after ≡ with_stored before judged.unit
+      → after ≡ with_owes before (row_writes parts judged.unit judged.old judged.new (touched_rows parts judged.unit) judged.totals.items)
+  unit-stored parts judged before after within owes stored =
+      let rest = row_writes parts judged.unit judged.old judged.new (touched_rows parts judged.unit) judged.totals.items in
+      stored ∙ ap (λ (ws : List (ℕ × ℕ)). with_owes before ws)
+      (ap (without judged.unit) owes ∙ without-first judged.unit judged.new rest (unit-apart parts judged.unit judged.old judged.new judged.totals.items within))

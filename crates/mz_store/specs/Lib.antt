@@ -1,0 +1,12 @@
+pub mod Commits
+pub mod Gathered
+pub mod Leaves
+pub mod Loads
+pub mod Looks
+pub mod Pass
+pub mod RunSetting
+pub mod Store
+pub mod Told
+pub mod Turns
+pub mod Verdict
+pub mod Words
