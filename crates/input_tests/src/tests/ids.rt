@@ -36,38 +36,43 @@ fn add_four(alloc: Global, ids: &mut Ids, four: [u32; 4]) -> Result<[bool; 4], N
     ])
 }
 
+fn count(ids: &Ids) -> u32 {
+    ids.len()
+}
+
 fn place(ids: &Ids, id: u32) -> Option<u32> {
     ids.place(id)
 }
 
-fn places(ids: &Ids, four: [u32; 4]) -> [Option<u32>; 4] {
-    let [first, second, third, fourth] = four;
-    [
-        place(ids, first),
-        place(ids, second),
-        place(ids, third),
-        place(ids, fourth),
-    ]
-}
-
-fn three_kept(ids: &Ids) -> Option<[u32; 3]> {
-    if ids.len() != 3 {
-        return None;
+/// The id at a place.
+fn id_at(ids: &Ids, place: u32) -> Option<u32> {
+    if place < ids.len() {
+        Some(ids.id(place))
+    } else {
+        None
     }
-    Some([ids.id(0), ids.id(1), ids.id(2)])
 }
 
 #[test]
 fn keeps_distinct_ids_in_their_order(rt: HostRuntime) -> Result<(), Fail> {
     let alloc = rt.alloc();
     let mut ids = no_ids(alloc)?;
-    assert!(rt; matches!(place(&ids, 7), None));
+    assert!(rt; place(&ids, 7) == None);
     let added = add_four(alloc, &mut ids, [7, 4_294_967_295, 7, 0])?;
     assert!(rt; matches!(added, [true, true, false, true]));
-    let places = places(&ids, [7, 4_294_967_295, 0, 1]);
-    assert!(rt; matches!(places, [Some(0), Some(1), Some(2), None]));
-    let kept = three_kept(&ids);
-    assert!(rt; matches!(kept, Some([7, 4_294_967_295, 0])));
+    assert!(rt; count(&ids) == 3);
+    let places = [
+        (7, Some(0)),
+        (4_294_967_295, Some(1)),
+        (0, Some(2)),
+        (1, None),
+    ];
+    for (id, found) in places {
+        assert!(rt; place(&ids, id) == found, "{id}");
+    }
+    assert!(rt; id_at(&ids, 0) == Some(7));
+    assert!(rt; id_at(&ids, 1) == Some(4_294_967_295));
+    assert!(rt; id_at(&ids, 2) == Some(0));
     Ok(())
 }
 
@@ -77,7 +82,7 @@ fn adds_the_id_of_a_row_once(rt: HostRuntime) -> Result<(), Fail> {
     let mut ids = no_ids(alloc)?;
     assert!(rt; matches!(add_row(alloc, &mut ids, 7, 2), Ok(())));
     assert!(rt; matches!(add_row(alloc, &mut ids, 5, 3), Ok(())));
-    assert!(rt; matches!(place(&ids, 5), Some(1)));
+    assert!(rt; place(&ids, 5) == Some(1));
     let again = add_row(alloc, &mut ids, 7, 4);
     assert!(rt; matches!(again, Err(RowFault::Repeated(4))));
     Ok(())
