@@ -14,6 +14,10 @@ use std::test::Fail;
 /// The parameters of a run of ten entries at one temperature, which is to be fitted.
 const FITTED: &[u8] = b"PUNAME pu.dat\nNUMITNS 10\nNUMTEMP 1\nSTARTTEMP -1\n";
 
+/// What the long parameter file says of the temperatures: a million entries and ten thousand levels.
+const LONG: &[u8] =
+    b"PUNAME pu.dat\nNUMITNS 1000000\nSTARTTEMP -1.00000000000000E+0000\nCOOLFAC  6.00000000000000E+0000\nNUMTEMP 10000\n";
+
 /// The first temperature, in thousandths of a ten-thousandth, and the factor.
 fn first_and_factor(rules: &Rules) -> Option<(u128, u32)>
     requires { IsRules rules.now }
@@ -44,5 +48,13 @@ fn a_lone_unit_of_cost_ten(rt: HostRuntime) -> Result<(), Fail> {
 fn no_free_unit_changes_nothing(rt: HostRuntime) -> Result<(), Fail> {
     let problem = no_units(rt.alloc())?;
     assert!(rt; fit(rt.alloc(), &problem, FITTED)? == Some((1_000, 1_999_999)));
+    Ok(())
+}
+
+// This factor was worked out by bench/outside.py.
+#[test]
+fn ten_thousand_levels_of_the_long_file(rt: HostRuntime) -> Result<(), Fail> {
+    let problem = lone_unit(rt.alloc())?;
+    assert!(rt; fit(rt.alloc(), &problem, LONG)? == Some((100_000_000, 999_769_787)));
     Ok(())
 }
