@@ -5,8 +5,8 @@ ghost use Rattle.mz_store.specs.Pass.{draw_of};
 ghost use Rattle.store_tests.specs.Caller.{DecidesNext};
 
 use mz_delta::{Judged, Reading};
-use mz_store::{Pass, Store, Verdict};
 use mz_num::NoMemory;
+use mz_store::{Pass, Store, Verdict};
 use std::sync::Wait;
 use std::thread;
 use std::thread::Threads;
@@ -33,10 +33,14 @@ pub fn visit_threads<R: Threads + Sync>(
     store: &Store,
     passes: Vec<Pass>,
 ) -> Result<Vec<Pass>, NoMemory> {
-    let back = thread::map_vec(rt, passes, &|pass: Pass| -> Pass {
-        stand_beside(store);
-        pass
-    })?;
+    let back = thread::map_vec(
+        rt,
+        passes,
+        &|pass: Pass| -> Pass {
+            stand_beside(store);
+            pass
+        },
+    )?;
     Ok(back)
 }
 

@@ -2,7 +2,6 @@
 #![tactic(auto)]
 
 mod caller;
-
 #[cfg(test)]
 mod tests;
 

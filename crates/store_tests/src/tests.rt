@@ -1,11 +1,10 @@
 //! Passes of a store on the three units with a target and boundaries. The random seeds are the least ones whose draws
 //! are of the stated units, worked out of the words of Pcg32 by a script of their own.
-ghost use Rattle.std.specs.Prelude.{◌≡◌, ◌<◌, ◌≤◌, ◌^◌, IfOk, IfSome, Some, length};
-ghost use Rattle.mz_model.specs.Zones.{free_units};
-ghost use Rattle.mz_delta.specs.Judged.{IsRight};
+ghost use Rattle.std.specs.Prelude.{◌≡◌, ◌<◌, ◌≤◌, ◌^◌, IfOk, IfSome};
 ghost use Rattle.mz_delta.specs.Rooms.{FitsJudged, FitsReading};
 ghost use Rattle.mz_history.specs.Rules.{IsRules};
-ghost use Rattle.mz_store.specs.Pass.{AreFresh, draw_of};
+ghost use Rattle.mz_store.specs.Pass.{AreFresh};
+ghost use Rattle.store_tests.specs.Proposals.{AreOf, IsProposed, IsRunOf};
 
 use mz_cool::{Schedule, Stairs};
 use mz_delta::{Judged, Reading, judge};
@@ -19,15 +18,25 @@ use std::alloc::Global;
 use std::sync::Wait;
 use std::test::Fail;
 
-/// The random seed with which both seats' first draws are of neighbours.
-const SEED: u64 = 6;
+/// The random seed with which both seats' first draws are of neighbours, and the one with which the second seat's first
+/// draw is of no neighbour, but of a unit that touches the same target row.
+const NEAR: u64 = 6;
 
-/// Rules for so many entries at a temperature at which small rises are taken.
-fn warm_rules(alloc: Global, limit: u32) -> Result<Rules, NoMemory>
+const FAR: u64 = 0;
+
+/// The temperature at which small rises are taken, and the one at which none is, in thousandths of a ten-thousandth.
+const WARM: u128 = 10_000_000_000;
+
+const COLD: u128 = 1;
+
+/// Rules for so many entries at one temperature.
+fn rules(alloc: Global, limit: u32, temperature: u128) -> Result<Rules, NoMemory>
     requires few { limit ≤ 10000000 }
+    requires above { 1 ≤ temperature }
+    requires below { temperature ≤ 10 ^ 29 }
     ensures rules { IfOk result IsRules }
 {
-    let schedule = Schedule::fixed(alloc, 10_000_000_000, 1_000_000_000, 1, limit)?;
+    let schedule = Schedule::fixed(alloc, temperature, 1_000_000_000, 1, limit)?;
     let stairs = Stairs::make(alloc)?;
     Ok(Rules {
         limit,
@@ -37,34 +46,35 @@ fn warm_rules(alloc: Global, limit: u32) -> Result<Rules, NoMemory>
     })
 }
 
-/// Looks at the unit of the pass's next draw, and judges the draw.
-fn propose(
-    problem: &Problem,
-    store: &Store,
-    pass: &mut Pass,
-    reading: &mut Reading,
-    judged: &mut Judged,
-)
-    requires problem { problem.now ≡ store.now.run.setting.parts }
-    requires seed { store.now.run.setting.seed ≡ 6 }
-    requires run { store.now.run.setting.run ≡ 1 }
-    requires store { pass.old.store ≡ store.now.board }
-    requires seat { pass.old.seat < 60 }
-    requires free { 0 < length (free_units problem.now) }
-    requires reading { FitsReading problem.now reading.old }
-    requires judged { FitsJudged problem.now judged.now }
-    ensures store { pass.new.store ≡ pass.old.store }
-    ensures seat { pass.new.seat ≡ pass.old.seat }
-    ensures last { pass.new.reading ≡ Some reading.new }
-    ensures right { IsRight problem.now reading.new (draw_of store.now.run pass.new) judged.exit.now }
-    ensures reading { FitsReading problem.now reading.new }
-    ensures judged { FitsJudged problem.now judged.exit.now }
+/// What a pass works with: what it read last, and what was judged by it.
+#[derive(Drop)]
+struct Desk {
+    reading: Reading,
+    judged: Judged,
+}
+
+fn make_desk(alloc: Global, problem: &Problem) -> Result<Desk, NoMemory>
+    ensures { IfOk result (λ desk. FitsReading problem.now desk.reading × FitsJudged problem.now desk.judged) }
 {
-    let mut drawer = Drawer::new(SEED, 1, pass.seat());
+    let reading = Reading::room(alloc, problem)?;
+    let judged = Judged::room(alloc, problem)?;
+    Ok(Desk { reading, judged })
+}
+
+/// Looks at the unit of the pass's next draw, and judges the draw.
+fn propose(problem: &Problem, seed: u64, store: &Store, pass: &mut Pass, desk: &mut Desk)
+    requires run { IsRunOf store.now problem.now seed }
+    requires pass { (pass.old.store ≡ store.now.board) × (pass.old.seat < 60) }
+    requires fits { FitsReading problem.now desk.now.reading × FitsJudged problem.now desk.now.judged }
+    ensures pass { (pass.new.store ≡ store.now.board) × (pass.new.seat ≡ pass.old.seat) }
+    ensures proposed { IsProposed store.now pass.new desk.exit.now.reading desk.exit.now.judged }
+    ensures fits { FitsReading problem.now desk.exit.now.reading × FitsJudged problem.now desk.exit.now.judged }
+{
+    let mut drawer = Drawer::new(seed, 1, pass.seat());
     drawer.skip(pass.number());
     let draw = drawer.next(problem.free(), problem.counts());
-    store.look(pass, draw.unit, reading);
-    judge(problem, reading, draw, judged);
+    store.look(pass, draw.unit, &mut desk.reading);
+    judge(problem, &desk.reading, draw, &mut desk.judged);
 }
 
 /// The two passes of a store, in the order of their seats.
@@ -79,18 +89,26 @@ fn two_passes(store: &Store, mut passes: Vec<Pass>) -> Option<(Pass, Pass)>
     Some((first, second))
 }
 
-/// What a commit is answered: the position of the entry and its draw's number and whether it was accepted.
+/// What a call tells; of an entry its position, its draw's number and whether it was accepted.
 #[derive(Clone, Copy, PartialEq, Eq)]
 enum Told {
     Decided(u32, u64, bool),
     Again(u32),
     Full,
     Busy(u8),
+    /// How many entries two passes have seen.
+    Seen(u32, u32),
+    /// The front of a reading, and the zone of its unit's first neighbour.
+    Read(u32, Option<u8>),
 }
 
 fn brief(verdict: Verdict) -> Told {
     match verdict {
-        Verdict::Decided(receipt) => Told::Decided(receipt.position, receipt.entry.number, receipt.entry.accepted),
+        Verdict::Decided(receipt) => Told::Decided(
+            receipt.position,
+            receipt.entry.number,
+            receipt.entry.accepted,
+        ),
         Verdict::Again(position) => Told::Again(position),
         Verdict::Full => Told::Full,
     }
@@ -98,57 +116,190 @@ fn brief(verdict: Verdict) -> Told {
 
 fn brief_try(verdict: TryVerdict) -> Told {
     match verdict {
-        TryVerdict::Decided(receipt) => Told::Decided(receipt.position, receipt.entry.number, receipt.entry.accepted),
+        TryVerdict::Decided(receipt) => Told::Decided(
+            receipt.position,
+            receipt.entry.number,
+            receipt.entry.accepted,
+        ),
         TryVerdict::Again(position) => Told::Again(position),
         TryVerdict::Full => Told::Full,
         TryVerdict::Busy(seat) => Told::Busy(seat),
     }
 }
 
-/// The first pass proposes, the second one proposes and commits, and the first one commits, looks anew and commits by
+/// What the second pass is answered, and then the first one, which had proposed before; it proposes anew, and commits by
 /// one try.
-fn overtaken<R: Wait>(
+fn in_turn<R: Wait>(
     rt: &R,
-    alloc: Global,
     problem: &Problem,
+    seed: u64,
     store: &Store,
     a: &mut Pass,
     b: &mut Pass,
-) -> Result<[Told; 3], NoMemory>
-    requires problem { problem.now ≡ store.now.run.setting.parts }
-    requires seed { store.now.run.setting.seed ≡ 6 }
-    requires run { store.now.run.setting.run ≡ 1 }
-    requires a { (a.old.store ≡ store.now.board) × (a.old.seat ≡ 0) }
-    requires b { (b.old.store ≡ store.now.board) × (b.old.seat ≡ 1) }
-    requires free { 0 < length (free_units problem.now) }
+    first: &mut Desk,
+    second: &mut Desk,
+) -> [Told; 3]
+    requires run { IsRunOf store.now problem.now seed }
+    requires passes { AreOf store.now a.old b.old }
+    requires first { FitsReading problem.now first.now.reading × FitsJudged problem.now first.now.judged }
+    requires second { FitsReading problem.now second.now.reading × FitsJudged problem.now second.now.judged }
 {
-    let mut reading = Reading::room(alloc, problem)?;
-    let mut judged = Judged::room(alloc, problem)?;
-    propose(problem, store, a, &mut reading, &mut judged);
-    let mut other_reading = Reading::room(alloc, problem)?;
-    let mut other_judged = Judged::room(alloc, problem)?;
-    propose(problem, store, b, &mut other_reading, &mut other_judged);
-    let second = brief(store.commit(rt, b, &other_reading, &other_judged));
-    let first = brief(store.commit(rt, a, &reading, &judged));
-    propose(problem, store, a, &mut reading, &mut judged);
-    let later = brief_try(store.try_commit(a, &reading, &judged));
-    Ok([second, first, later])
+    propose(problem, seed, store, a, first);
+    propose(problem, seed, store, b, second);
+    let other = brief(store.commit(rt, b, &second.reading, &second.judged));
+    let own = brief(store.commit(rt, a, &first.reading, &first.judged));
+    propose(problem, seed, store, a, first);
+    let later = brief_try(store.try_commit(a, &first.reading, &first.judged));
+    [other, own, later]
 }
 
-/// What the three commits are answered, where the journal may have so many entries.
-fn answers<R: Wait>(rt: &R, alloc: Global, limit: u32) -> Result<Option<[Told; 3]>, NoMemory>
+/// The second pass commits twice before the first one commits what it had proposed.
+fn twice_before<R: Wait>(
+    rt: &R,
+    problem: &Problem,
+    seed: u64,
+    store: &Store,
+    a: &mut Pass,
+    b: &mut Pass,
+    first: &mut Desk,
+    second: &mut Desk,
+) -> [Told; 3]
+    requires run { IsRunOf store.now problem.now seed }
+    requires passes { AreOf store.now a.old b.old }
+    requires first { FitsReading problem.now first.now.reading × FitsJudged problem.now first.now.judged }
+    requires second { FitsReading problem.now second.now.reading × FitsJudged problem.now second.now.judged }
+{
+    propose(problem, seed, store, a, first);
+    propose(problem, seed, store, b, second);
+    let other = brief(store.commit(rt, b, &second.reading, &second.judged));
+    propose(problem, seed, store, b, second);
+    let again = brief_try(store.try_commit(b, &second.reading, &second.judged));
+    let own = brief_try(store.try_commit(a, &first.reading, &first.judged));
+    [other, again, own]
+}
+
+/// The second pass commits, the first one proposes, the second one commits again, and then the first one.
+fn between<R: Wait>(
+    rt: &R,
+    problem: &Problem,
+    seed: u64,
+    store: &Store,
+    a: &mut Pass,
+    b: &mut Pass,
+    first: &mut Desk,
+    second: &mut Desk,
+) -> [Told; 3]
+    requires run { IsRunOf store.now problem.now seed }
+    requires passes { AreOf store.now a.old b.old }
+    requires first { FitsReading problem.now first.now.reading × FitsJudged problem.now first.now.judged }
+    requires second { FitsReading problem.now second.now.reading × FitsJudged problem.now second.now.judged }
+{
+    propose(problem, seed, store, b, second);
+    let other = brief_try(store.try_commit(b, &second.reading, &second.judged));
+    propose(problem, seed, store, a, first);
+    propose(problem, seed, store, b, second);
+    let again = brief(store.commit(rt, b, &second.reading, &second.judged));
+    let own = brief(store.commit(rt, a, &first.reading, &first.judged));
+    [other, again, own]
+}
+
+/// The second pass commits what the first one hasn't seen; what the two have seen once they have met, and what the first
+/// one reads anew: its front, and the zone of its unit's first neighbour.
+fn meeting<R: Wait>(
+    rt: &R,
+    problem: &Problem,
+    seed: u64,
+    store: &Store,
+    mut a: Pass,
+    mut b: Pass,
+    first: &mut Desk,
+    second: &mut Desk,
+) -> [Told; 3]
+    requires run { IsRunOf store.now problem.now seed }
+    requires passes { AreOf store.now a b }
+    requires first { FitsReading problem.now first.now.reading × FitsJudged problem.now first.now.judged }
+    requires second { FitsReading problem.now second.now.reading × FitsJudged problem.now second.now.judged }
+{
+    propose(problem, seed, store, &mut a, first);
+    propose(problem, seed, store, &mut b, second);
+    let other = brief(store.commit(rt, &mut b, &second.reading, &second.judged));
+    let b = store.meet(&mut a, b);
+    let seen = Told::Seen(a.seen(), b.seen());
+    propose(problem, seed, store, &mut a, first);
+    let read = Told::Read(
+        first.reading.front,
+        first.reading.neighbours.as_slice().first().copied(),
+    );
+    [other, seen, read]
+}
+
+/// Which of these is played.
+#[derive(Clone, Copy)]
+enum Play {
+    InTurn,
+    TwiceBefore,
+    Between,
+    Meeting,
+}
+
+/// What the passes of a store of two seats are answered.
+fn played<R: Wait>(
+    rt: &R,
+    alloc: Global,
+    play: Play,
+    seed: u64,
+    limit: u32,
+    temperature: u128,
+) -> Result<Option<[Told; 3]>, NoMemory>
     requires few { limit ≤ 10000000 }
+    requires above { 1 ≤ temperature }
+    requires below { temperature ≤ 10 ^ 29 }
 {
     let problem = build_three_units(alloc)?;
     if problem.free().is_empty() {
         return Ok(None);
     }
-    let rules = warm_rules(alloc, limit)?;
-    let (store, passes) = Store::open(alloc, &problem, &rules, SEED, 1, 2)?;
+    let rules = rules(alloc, limit, temperature)?;
+    let mut first = make_desk(alloc, &problem)?;
+    let mut second = make_desk(alloc, &problem)?;
+    let (store, passes) = Store::open(alloc, &problem, &rules, seed, 1, 2)?;
     let Some((mut a, mut b)) = two_passes(&store, passes) else {
         return Ok(None);
     };
-    Ok(Some(overtaken(rt, alloc, &problem, &store, &mut a, &mut b)?))
+    let told = match play {
+        Play::InTurn => in_turn(
+            rt,
+            &problem,
+            seed,
+            &store,
+            &mut a,
+            &mut b,
+            &mut first,
+            &mut second,
+        ),
+        Play::TwiceBefore => twice_before(
+            rt,
+            &problem,
+            seed,
+            &store,
+            &mut a,
+            &mut b,
+            &mut first,
+            &mut second,
+        ),
+        Play::Between => between(
+            rt,
+            &problem,
+            seed,
+            &store,
+            &mut a,
+            &mut b,
+            &mut first,
+            &mut second,
+        ),
+        Play::Meeting => meeting(rt, &problem, seed, &store, a, b, &mut first, &mut second),
+    };
+    Ok(Some(told))
 }
 
 #[test]
@@ -158,22 +309,66 @@ fn a_neighbour_overtakes(rt: HostRuntime) -> Result<(), Fail> {
         Told::Again(0),
         Told::Decided(1, 0, true),
     ];
-    assert!(rt; answers(&rt, rt.alloc(), 100)? == Some(told));
+    assert!(rt; played(&rt, rt.alloc(), Play::InTurn, NEAR, 100, WARM)? == Some(told));
+    Ok(())
+}
+
+#[test]
+fn a_target_row_overtakes(rt: HostRuntime) -> Result<(), Fail> {
+    let told = [
+        Told::Decided(0, 0, true),
+        Told::Again(0),
+        Told::Decided(1, 0, true),
+    ];
+    assert!(rt; played(&rt, rt.alloc(), Play::InTurn, FAR, 100, WARM)? == Some(told));
     Ok(())
 }
 
 #[test]
 fn a_journal_of_one_entry_is_full(rt: HostRuntime) -> Result<(), Fail> {
     let told = [Told::Decided(0, 0, true), Told::Full, Told::Full];
-    assert!(rt; answers(&rt, rt.alloc(), 1)? == Some(told));
+    assert!(rt; played(&rt, rt.alloc(), Play::InTurn, NEAR, 1, WARM)? == Some(told));
+    Ok(())
+}
+
+#[test]
+fn a_move_there_and_back_overtakes(rt: HostRuntime) -> Result<(), Fail> {
+    let told = [
+        Told::Decided(0, 0, true),
+        Told::Decided(1, 1, true),
+        Told::Again(1),
+    ];
+    assert!(rt; played(&rt, rt.alloc(), Play::TwiceBefore, NEAR, 100, WARM)? == Some(told));
+    Ok(())
+}
+
+#[test]
+fn a_refused_entry_overtakes_nothing(rt: HostRuntime) -> Result<(), Fail> {
+    let told = [
+        Told::Decided(0, 0, true),
+        Told::Decided(1, 1, false),
+        Told::Decided(2, 0, true),
+    ];
+    assert!(rt; played(&rt, rt.alloc(), Play::Between, NEAR, 100, COLD)? == Some(told));
+    Ok(())
+}
+
+#[test]
+fn passes_that_meet_have_seen_the_same(rt: HostRuntime) -> Result<(), Fail> {
+    let told = [
+        Told::Decided(0, 0, true),
+        Told::Seen(1, 1),
+        Told::Read(1, Some(1)),
+    ];
+    assert!(rt; played(&rt, rt.alloc(), Play::Meeting, NEAR, 100, WARM)? == Some(told));
     Ok(())
 }
 
 /// The entries and the score of a store of one seat that is closed at once.
 fn closed_at_once(alloc: Global) -> Result<(usize, u128), NoMemory> {
     let problem = build_three_units(alloc)?;
-    let rules = warm_rules(alloc, 100)?;
-    let (store, passes) = Store::open(alloc, &problem, &rules, SEED, 1, 1)?;
+    let rules = rules(alloc, 100, WARM)?;
+    let (store, passes) = Store::open(alloc, &problem, &rules, NEAR, 1, 1)?;
     let closed = store.close(passes);
     Ok((closed.journal.len(), closed.score.total))
 }
