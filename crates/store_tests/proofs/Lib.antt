@@ -1,1 +1,2 @@
 pub mod CallerLaws
+pub mod ProposalLaws
