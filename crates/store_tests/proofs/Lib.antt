@@ -1,2 +1,1 @@
 pub mod CallerLaws
-pub mod ProposalLaws

@@ -1,2 +1,1 @@
 pub mod Caller
-pub mod Proposals

@@ -1,8 +1,6 @@
-//! Tests of mz_store, and a caller of it. They stand in a crate of their own, so that they are proved without it.
+//! A caller of mz_store. It stands in a crate of its own, so that it is proved from the store's contracts alone.
 #![tactic(auto)]
 
 mod caller;
-#[cfg(test)]
-mod tests;
 
 pub use caller::{commit_next, visit_threads};
