@@ -1,5 +1,5 @@
 -- What a caller of a store knows of its entries, by the store's contracts alone.
-use Rattle.std.specs.Prelude.{◌≡◌, ◌≤◌, ℕ, List, length}
+use Rattle.std.specs.Prelude.{◌≡◌, ◌≤◌, List, length}
 use Rattle.mz_board.specs.Seen.{Begins}
 use Rattle.mz_history.specs.declared.entry.Entry.{Entry}
 use Rattle.mz_history.specs.Core.{entry_of_seat}
