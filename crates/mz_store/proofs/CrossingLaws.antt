@@ -1,8 +1,7 @@
 -- A pass may go to another thread, and a store may be shared among threads.
 use mathlib.Core.List.{[], ◌∷◌}
-use mir.Syntax.{w8, w32, w64}
+use mir.Syntax.{w32, w64}
 use denote.Plain.{UInt}
-use denote.Param.{param}
 use denote.RattleType.{RattleType}
 use denote.Param.Send.{IsSend, IsSync, sendable, view_send, view_sync}
 use denote.Param.SendFields.{declared_sync}

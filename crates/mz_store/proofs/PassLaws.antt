@@ -20,6 +20,12 @@ use Rattle.mz_store.specs.RunSetting.{RunSetting}
 use Rattle.mz_store.specs.Store.{IsStore, StoreState}
 use Rattle.mz_store.proofs.LoadLaws.{zip-around}
 use Rattle.mz_store.proofs.StoreLaws.{run-known}
+use Rattle.mz_store.proofs.ToldLaws.{length-untold}
+use Rattle.mz_store.specs.Told.{untold}
+use Rattle.mz_history.specs.declared.entry.Entry.{Entry}
+use Rattle.mz_history.specs.Core.{seats_of}
+use Rattle.mz_history.proofs.HistoryLaws.{turns_of-le}
+use Rattle.std.proofs.lemmas.List.{length-map}
 
 -- the loads of a reading, the last one first: rows, neighbours, unit
 loads-turned : (parts : Parts) (reading : Reading) → length reading.neighbours.items ≡ length (neighbours_of parts reading.unit)
@@ -122,3 +128,17 @@ looked-looks now before first second third after seat number reached room unit l
       now = ap (λ (v : Reading). pass_of after number reading.front (Some v)) same
           ∙ ap (λ (c : ChairState Told RunSetting). pass_of c number reading.front (Some reading)) (looked-chair parts before first second third after reading h);
     })
+
+-- a pass has drawn no more often than it has seen entries
+pub few-draws : (chair : ChairState Told RunSetting) (seat number reached : ℕ) (last : Option Reading) (room : Room) (pass : PassState) → pass_of chair number reached last ≡ pass → IsPass chair seat number reached last room → number ≤ pass.reached
+few-draws chair seat number reached last room pass seen is =
+    omega (
+      arith,
+      is.number_is,
+      turns_of-le chair.number (seats_of (untold chair.seen)),
+      length-map (untold chair.seen) (λ (e : Entry). e.seat),
+      length-untold chair.seen,
+      is.least,
+      is.reached_is,
+      ap (λ (p : PassState). p.reached) seen,
+    )

@@ -48,6 +48,7 @@ impl Pass {
     pub fn number(&self) -> u64
         ensures number { result ≡ self.now.number }
         ensures own { result ≡ turns_of self.now.seat (seats_of self.now.seen) }
+        ensures few { result ≤ self.now.reached }
     {
         self.number
     }
