@@ -2,5 +2,7 @@
 #![tactic(auto)]
 
 mod caller;
+#[cfg(test)]
+mod tests;
 
 pub use caller::{commit_next, visit_threads};
