@@ -444,24 +444,3 @@ fn passes_that_meet_have_seen_the_same(rt: HostRuntime) -> Result<(), Fail> {
     assert!(rt; is_played(&rt, rt.alloc(), Play::Meeting, NEAR, 100, WARM, told)?);
     Ok(())
 }
-
-/// How many entries a store of one seat has that is closed at once, and its score.
-fn closed_at_once(alloc: Global, problem: &Problem) -> Result<(usize, u128), NoMemory> {
-    let rules = rules(alloc, 100, WARM)?;
-    close_at_once(alloc, problem, &rules)
-}
-
-fn close_at_once(alloc: Global, problem: &Problem, rules: &Rules) -> Result<(usize, u128), NoMemory>
-    requires rules { IsRules rules.now }
-{
-    let (store, passes) = Store::open(alloc, problem, rules, NEAR, 1, 1)?;
-    let closed = store.close(passes);
-    Ok((closed.journal.len(), closed.score.total))
-}
-
-#[test]
-fn a_store_that_is_closed_at_once_has_the_starting_plan(rt: HostRuntime) -> Result<(), Fail> {
-    let problem = three_units(rt.alloc())?;
-    assert!(rt; closed_at_once(rt.alloc(), &problem)? == (0, 600_000));
-    Ok(())
-}
