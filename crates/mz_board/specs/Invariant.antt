@@ -2,6 +2,7 @@
 -- and a word for each item, and one slot holds the value.
 use Rattle.std.specs.Prelude.{◌≡◌, ◌≢◌, ◌+◌, ◌<◌, ◌≤◌, ◌⊎◌, ℕ, List, [], ◌∷◌, length, slice_index_or, Bool, true, false, cond, Option, Some, None}
 use Rattle.std.specs.List.{All}
+use Rattle.mz_num.specs.Limits.{most_workers}
 use mathlib.Core.Option.{some, none}
 use mathlib.Core.Option as maybe
 use lib.ListN.{get_elem?}
@@ -94,7 +95,7 @@ module _ {T E S : Type 0} (story : Ghosts T E S) (fixed : Fixed S) (now : Stand 
 
 module _ {T E S : Type 0} (story : Ghosts T E S) (fixed : Fixed S) where
   pub record BoardHolds (s : State (Option T) (View E S)) : Type 0 where
-    pub few : fixed.seats ≤ 60
+    pub few : fixed.seats ≤ most_workers
     pub now : Stand E
     pub words : s.words ≡ words_of now
     pub owners : All (λ entry. story.owner entry < fixed.seats) now.list

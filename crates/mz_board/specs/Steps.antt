@@ -1,6 +1,7 @@
 -- What each step on the board's table tells: of the step, the seat before, the number found and the seat after.
 use Rattle.std.specs.Prelude.{◌≡◌, ◌≢◌, ◌+◌, ◌-◌, ◌<◌, ◌≤◌, ℕ, List, ◌∷◌, length, true, Option, Some}
 use Rattle.std.specs.List.{All}
+use Rattle.mz_num.specs.Limits.{most_workers}
 use Rattle.atomic_table.specs.Table.{Me, Step, rest}
 use Rattle.mz_board.specs.declared.story.Story.{Ghosts}
 use Rattle.mz_board.specs.declared.view.View.{View}
@@ -42,7 +43,7 @@ module _ {T E S : Type 0} (story : Ghosts T E S) where
     pub view : m' ≡ (missed_view m.0 found, m.1)
     pub other : ℕ
     pub found_is : found ≡ other + 1
-    pub few : other < 60
+    pub few : other < most_workers
     pub apart : other ≢ m.0.number
     pub chair : other < m.0.seats
 

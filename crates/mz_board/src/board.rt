@@ -1,6 +1,7 @@
 //! The board.
 ghost use Rattle.std.specs.Prelude.{◌≡◌, ◌+◌, ◌<◌, ◌≤◌, ℕ, List, [], ◌∷◌, length, slice_index_or, true, Some, IfOk};
 ghost use Rattle.std.specs.List.{All};
+ghost use Rattle.mz_num.specs.Limits.{most_workers};
 ghost use Rattle.mz_board.specs.Chair.{AreFresh, AreAllOf, Learns};
 
 use crate::chair::Chair;
@@ -69,11 +70,14 @@ impl<T: Story + Send + Drop> Board<T> {
         words: &[u64],
         seats: u8,
     ) -> Result<(Board<T>, Vec<Chair<T>>), NoMemory>
+        // The seats, and what the chairs find first.
         requires some { 1 ≤ seats }
-        requires few { seats ≤ 60 }
+        requires few { seats ≤ most_workers }
         requires empty { T.entries value ≡ [] }
         requires may { (item : ℕ) → item < length words.now
             → T.may_have (T.setting value) item (slice_index_or words.now item 0) ≡ true }
+
+        // The board and its chairs.
         ensures board { IfOk result (λ opened. (opened.0.seats ≡ seats)
             × (opened.0.setting ≡ Some (T.setting value)) × (opened.0.opening ≡ words.now)) }
         ensures chairs { IfOk result (λ opened. AreFresh opened.0 seats opened.1.items) }

@@ -51,8 +51,13 @@ fn read_bound_rows(
     table: &Table,
     units: &Ids,
 ) -> Result<Vec<(u32, u32, u64)>, RowFault>
+    // The table.
     requires { All (λ row. length row ≡ 3) table.now }
+
+    // The rows, or the first fault.
     ensures answer { Gives result (λ rows. rows.items) (bound_rows units.now table.now) }
+
+    // What holds of the rows.
     ensures few { IfOk result (λ rows. length rows.items ≤ most_boundary_rows) }
     ensures low { IfOk result (λ rows. All (λ row. row.0 ≤ row.1) rows.items) }
     ensures high { IfOk result (λ rows. All (λ row. row.1 < length units.now) rows.items) }

@@ -9,9 +9,14 @@ use mz_tables::{Ids, RowFault, Table};
 
 /// Reads a row of boundaries: two units by place, the lower one first, and a length in ten-thousandths.
 pub(crate) fn read_bound(table: &Table, row: u32, units: &Ids) -> Result<(u32, u32, u64), RowFault>
+    // The row.
     requires row { row < length table.now }
     requires wide { length (get_or table.now row []) ≡ 3 }
+
+    // The pair with its length, or the fault.
     ensures answer { result ≡ bound_in units.now (line_of row) (get_or table.now row []) }
+
+    // What holds of them.
     ensures low { IfOk result (λ row. row.0 ≤ row.1) }
     ensures high { IfOk result (λ row. row.1 < length units.now) }
     ensures small { IfOk result (λ row. row.2 ≤ greatest_quantity) }
@@ -28,9 +33,14 @@ pub(crate) fn read_zone_bound(
     row: u32,
     zones: &Ids,
 ) -> Result<(u32, u32, u64), RowFault>
+    // The row.
     requires row { row < length table.now }
     requires wide { length (get_or table.now row []) ≡ 3 }
+
+    // The pair with its cost, or the fault.
     ensures answer { result ≡ zone_bound_in zones.now (line_of row) (get_or table.now row []) }
+
+    // What holds of them.
     ensures low { IfOk result (λ row. row.0 ≤ row.1) }
     ensures high { IfOk result (λ row. row.1 < length zones.now) }
     ensures small { IfOk result (λ row. row.2 ≤ greatest_quantity) }

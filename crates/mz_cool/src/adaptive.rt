@@ -1,6 +1,7 @@
 //! The schedule that fits sampled changes of score.
 ghost use Rattle.std.specs.Prelude.{◌≡◌, ◌^◌, ◌≤◌, ◌<◌, IfOk, IfSome, All, map, min, nat_le, unsigned_abs, length};
 ghost use Rattle.std.specs.Option.{option_map_or};
+ghost use Rattle.mz_num.specs.Limits.{greatest_score};
 ghost use Rattle.mz_cool.specs.Schedule.{temperature_of_level};
 ghost use Rattle.mz_cool.specs.Adaptive.{adaptive_cooling, adaptive_factor, first_temperature, last_temperature, greatest, least, sizes_above_0};
 
@@ -19,7 +20,7 @@ impl Schedule {
         limit: u32,
     ) -> Result<Schedule, NoMemory>
         requires some_change { 0 < length changes.now }
-        requires sizes { All (λ d. unsigned_abs d ≤ 10 ^ 25) changes.now }
+        requires sizes { All (λ d. unsigned_abs d ≤ greatest_score) changes.now }
         requires some_level { 1 ≤ levels }
         ensures { IfOk result (λ s. s ≡ adaptive_cooling changes.now levels limit) }
     {
@@ -32,7 +33,7 @@ impl Schedule {
 /// A thousand times the greatest size of the changes, or of the size 1.
 #[tactic(auto, unfolding(crate::specs::Adaptive::first_temperature))]
 fn first_temperature(changes: &[i128]) -> u128
-    requires { All (λ d. unsigned_abs d ≤ 10 ^ 25) changes.now }
+    requires { All (λ d. unsigned_abs d ≤ greatest_score) changes.now }
     ensures value { result ≡ first_temperature changes.now }
     ensures above { 1 ≤ result }
     ensures below { result ≤ 10 ^ 29 }
@@ -42,7 +43,7 @@ fn first_temperature(changes: &[i128]) -> u128
 
 /// A hundred times the least size of the changes other than 0, at least 1, or 1 where all are 0.
 fn last_temperature(changes: &[i128]) -> u128
-    requires { All (λ d. unsigned_abs d ≤ 10 ^ 25) changes.now }
+    requires { All (λ d. unsigned_abs d ≤ greatest_score) changes.now }
     ensures value { result ≡ last_temperature changes.now }
     ensures above { 1 ≤ result }
 {
@@ -54,9 +55,9 @@ fn last_temperature(changes: &[i128]) -> u128
 
 /// The greatest size of the changes.
 fn greatest_size(changes: &[i128]) -> u128
-    requires { All (λ d. unsigned_abs d ≤ 10 ^ 25) changes.now }
+    requires { All (λ d. unsigned_abs d ≤ greatest_score) changes.now }
     ensures value { result ≡ greatest (map unsigned_abs changes.now) }
-    ensures bound { result ≤ 10 ^ 25 }
+    ensures bound { result ≤ greatest_score }
 {
     let mut greatest: u128 = 0;
     for change in changes {
@@ -67,9 +68,9 @@ fn greatest_size(changes: &[i128]) -> u128
 
 /// The least size of the changes other than 0.
 fn least_size(changes: &[i128]) -> Option<u128>
-    requires { All (λ d. unsigned_abs d ≤ 10 ^ 25) changes.now }
+    requires { All (λ d. unsigned_abs d ≤ greatest_score) changes.now }
     ensures value { result ≡ least (sizes_above_0 changes.now) }
-    ensures bound { IfSome result (λ size. size ≤ 10 ^ 25) }
+    ensures bound { IfSome result (λ size. size ≤ greatest_score) }
 {
     let mut least: Option<u128> = None;
     for change in changes {
@@ -94,10 +95,13 @@ fn smaller(least: Option<u128>, size: u128) -> u128
 /// The greatest factor below 1 with which so many steps from the first temperature end at most at
 /// the last. The temperature at the end rises with the factor, so that halving finds it.
 fn adaptive_factor(first: u128, last: u128, levels: u32) -> u32
+    // The first and the last temperature, and the levels between them.
     requires above { 1 ≤ first }
     requires below { first ≤ 10 ^ 29 }
     requires end { 1 ≤ last }
     requires some_level { 1 ≤ levels }
+
+    // The factor.
     ensures value { result ≡ adaptive_factor first last levels }
     ensures bound { result < 10 ^ 9 }
 {

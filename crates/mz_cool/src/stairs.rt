@@ -1,5 +1,6 @@
 //! The acceptance of a change of score.
 ghost use Rattle.std.specs.Prelude.{◌≡◌, ◌^◌, ◌≤◌, unsigned_abs};
+ghost use Rattle.mz_num.specs.Limits.{greatest_score};
 ghost use Rattle.mz_cool.specs.Acceptance.{is_accepted};
 
 use mz_num::NoMemory;
@@ -43,7 +44,7 @@ impl Stairs {
     /// `64000 * d / t`.
     #[tactic(auto, unfolding(crate::specs::Acceptance::is_accepted))]
     pub fn accepts(&self, d: i128, t: u128, word: u32) -> bool
-        requires size { unsigned_abs d ≤ 10 ^ 25 }
+        requires size { unsigned_abs d ≤ greatest_score }
         requires above { 1 ≤ t }
         requires below { t ≤ 10 ^ 29 }
         ensures { result ≡ is_accepted d t word }

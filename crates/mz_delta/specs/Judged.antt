@@ -1,5 +1,6 @@
 -- Judged moves: what they say of each plan that agrees with the reading.
 use Rattle.std.specs.Prelude.{◌≡◌, ℕ, ◌^◌, ◌≤◌, pos, ◌+ℤ◌, ◌-ℤ◌, unsigned_abs, IsTrue, List, map}
+use Rattle.mz_num.specs.Limits.{greatest_score}
 use Rattle.mz_draw.specs.declared.draw.Draw.{Draw}
 use Rattle.mz_model.specs.declared.parts.Parts.{Parts}
 use Rattle.mz_model.specs.Plans.{IsLegalPlan}
@@ -23,10 +24,10 @@ pub record IsDifference (parts : Parts) (before after : List ℕ) (judged : Judg
 
 -- no difference is above 10^25 in absolute value
 pub record IsSmallChange (judged : Judged) : Type 0 where
-  pub cost : unsigned_abs judged.cost ≤ 10 ^ 25
-  pub boundary : unsigned_abs judged.boundary ≤ 10 ^ 25
-  pub penalty : unsigned_abs judged.penalty ≤ 10 ^ 25
-  pub change : unsigned_abs judged.change ≤ 10 ^ 25
+  pub cost : unsigned_abs judged.cost ≤ greatest_score
+  pub boundary : unsigned_abs judged.boundary ≤ greatest_score
+  pub penalty : unsigned_abs judged.penalty ≤ greatest_score
+  pub change : unsigned_abs judged.change ≤ greatest_score
 
 -- the move of the reading's unit to that zone, which is allowed for it, with a draw's number (its place among its
 -- seat's) and random word; what it says of score and totals holds for each legal plan that agrees with the reading

@@ -6,6 +6,7 @@ use Rattle.mz_model.specs.declared.parts.Parts.{Parts}
 use Rattle.mz_model.specs.Boundary.{neighbours_of, no_neighbour}
 use Rattle.mz_model.specs.Parts.{unit_count, target_count}
 use Rattle.mz_num.specs.Places.{list_below}
+use Rattle.mz_num.specs.Limits.{greatest_quantity}
 use Rattle.mz_model.specs.Targets.{held_of, touched_rows}
 use Rattle.mz_model.specs.Zones.{is_allowed}
 use Rattle.mz_delta.specs.declared.reading.Reading.{Reading}
@@ -23,7 +24,7 @@ pub record IsWellFormed (parts : Parts) (reading : Reading) : Type 0 where
   pub neighbours : (i : ℕ) → i < length (neighbours_of parts reading.unit)
       → IsTrue (is_allowed parts (neighbour_at parts reading.unit i) (slice_index reading.neighbours.items i))
   pub touched : length reading.totals.items ≡ length (touched_rows parts reading.unit)
-  pub totals : All (λ total. total ≤ 10 ^ 18) reading.totals.items
+  pub totals : All (λ total. total ≤ greatest_quantity) reading.totals.items
 
 -- the zones of a unit's neighbours in a plan
 abbrev pub zones_around : Parts → List ℕ → ℕ → List ℕ

@@ -47,10 +47,15 @@ pub fn judge_from(
     zone: u8,
     judged: &mut Judged,
 )
+    // What was read, and what holds of it before a move.
     requires well_formed { IsWellFormed problem.now reading.now }
     requires before { IsBefore problem.now reading.now before.now }
+
+    // The zone, and room for the result.
     requires allowed { IsTrue (is_allowed problem.now reading.now.unit zone) }
     requires fits { FitsJudged problem.now judged.now }
+
+    // The result.
     ensures judged { IsJudged problem.now reading.now zone 0 0 judged.exit.now }
     ensures fits { FitsJudged problem.now judged.exit.now }
 {

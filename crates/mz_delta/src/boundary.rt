@@ -1,5 +1,6 @@
 //! The boundary round a unit, and how it changes where the unit moves.
 ghost use Rattle.std.specs.Prelude.{◌≡◌, ◌+◌, ◌*◌, ◌<◌, ◌≤◌, ◌^◌, unsigned_abs};
+ghost use Rattle.mz_num.specs.Limits.{greatest_quantity};
 ghost use Rattle.mz_model.specs.Boundary.{IsLength, edge_term_of};
 ghost use Rattle.mz_model.specs.Parts.{zone_count};
 ghost use Rattle.mz_delta.specs.Move.{boundary_around, boundary_growth};
@@ -34,14 +35,17 @@ pub(crate) fn boundary_change(problem: &Problem, reading: &Reading, zone: u8) ->
 /// The terms of a length between a zone that changes and another one. Where the rate stays both are left out.
 #[inline]
 fn terms_of_move(problem: &Problem, len: u64, old: u8, new: u8, other: u8) -> Terms
+    // The pair and the zones of its ends.
     requires length { IsLength problem.now len }
     requires old { old < zone_count problem.now }
     requires new { new < zone_count problem.now }
     requires other { other < zone_count problem.now }
+
+    // The terms, and how great they are.
     ensures change { result.after + edge_term_of problem.now len old other
         ≡ result.before + edge_term_of problem.now len new other }
-    ensures before { result.before ≤ 10 ^ 18 }
-    ensures after { result.after ≤ 10 ^ 18 }
+    ensures before { result.before ≤ greatest_quantity }
+    ensures after { result.after ≤ greatest_quantity }
 {
     if problem.rate(old, other) == problem.rate(new, other) {
         return Terms {

@@ -1,5 +1,6 @@
 //! Differences of sums.
 ghost use Rattle.std.specs.Prelude.{◌≡◌, ◌*◌, ◌^◌, ◌≤◌, pos, ◌+ℤ◌, ◌-ℤ◌, unsigned_abs};
+ghost use Rattle.mz_num.specs.Limits.{greatest_score};
 
 /// What a term was before a move, and what it is after it. Where the two are equal both may be left out.
 #[derive(Clone, Copy)]
@@ -34,7 +35,7 @@ pub(crate) fn sum_of(cost: i128, boundary: i128, penalty: i128) -> i128
     requires boundary { unsigned_abs boundary ≤ 3 * 10 ^ 24 }
     requires penalty { unsigned_abs penalty ≤ 3 * 10 ^ 24 }
     ensures sum { result ≡ cost +ℤ boundary +ℤ penalty }
-    ensures small { unsigned_abs result ≤ 10 ^ 25 }
+    ensures small { unsigned_abs result ≤ greatest_score }
 {
     cost + boundary + penalty
 }

@@ -128,12 +128,17 @@ pub(crate) fn put_move(
     differences: Differences,
     judged: &mut Judged,
 )
+    // The reading, the zone, and room for the result.
     requires well_formed { IsWellFormed problem.now reading.now }
     requires allowed { IsTrue (is_allowed problem.now reading.now.unit zone) }
     requires fits { FitsJudged problem.now judged.now }
+
+    // What was worked out of them.
     requires totals { judged.now.totals.items ≡ moved_totals problem.now reading.now zone }
     requires valid { IsValid problem.now }
     requires growths { AreGrowths problem.now reading.now zone differences }
+
+    // The result.
     ensures judged { IsJudged problem.now reading.now zone number word judged.exit.now }
     ensures fits { FitsJudged problem.now judged.exit.now }
 {

@@ -62,10 +62,15 @@ pub fn totals_of(alloc: Global, problem: &Problem, plan: &Plan) -> Result<Vec<u6
 
 /// Reads a unit of a plan whose totals are these. Seat and front of the reading stay.
 pub fn read_plan(problem: &Problem, plan: &Plan, totals: &[u64], unit: u32, reading: &mut Reading)
+    // The plan with its own totals.
     requires legal { IsLegalPlan problem.now plan.now }
     requires totals { totals.now ≡ totals_of_plan problem.now plan.now }
+
+    // The unit, and room for its reading.
     requires unit { unit < unit_count problem.now }
     requires fits { FitsReading problem.now reading.old }
+
+    // The reading.
     ensures reads { IsReadingOf problem.now plan.now unit reading.old reading.new }
     ensures fits { FitsReading problem.now reading.new }
 {
@@ -91,7 +96,10 @@ fn read_neighbours(problem: &Problem, plan: &Plan, unit: u32, zones: &mut Filled
 
 /// The totals of the target rows that a unit touches.
 fn read_totals(problem: &Problem, totals: &[u64], unit: u32, read: &mut Filled<u64>)
+    // What is read, and room for it.
     requires unit { unit < unit_count problem.now }
+
+    // The totals of the touched rows.
     requires totals { length totals.now ≡ target_count problem.now }
     requires fits { greatest_touched problem.now ≤ read.old.room }
     ensures totals { read.new.items ≡ map (slice_index totals.now) (touched_rows problem.now unit) }

@@ -1,5 +1,6 @@
 //! The target rows that a unit touches, and how their penalties change where the unit moves.
 ghost use Rattle.std.specs.Prelude.{◌≡◌, ◌+◌, ◌*◌, ◌<◌, ◌≤◌, ◌^◌, IsTrue, unsigned_abs};
+ghost use Rattle.mz_num.specs.Limits.{greatest_quantity};
 ghost use Rattle.mz_model.specs.Parts.{target_count};
 ghost use Rattle.mz_model.specs.Scores.{penalty_term_of};
 ghost use Rattle.mz_model.specs.Valid.{IsValid};
@@ -21,11 +22,16 @@ pub(crate) fn rows_change(
     zone: u8,
     totals: &mut Filled<u64>,
 ) -> i128
+    // The reading, the zone, and room for the totals.
     requires well_formed { IsWellFormed problem.now reading.now }
     requires allowed { IsTrue (is_allowed problem.now reading.now.unit zone) }
     requires fits { greatest_touched problem.now ≤ totals.old.room }
+
+    // The growth of the penalty.
     ensures change { result ≡ penalty_growth problem.now reading.now zone }
     ensures small { unsigned_abs result ≤ 3 * 10 ^ 24 }
+
+    // The totals after the move.
     ensures moved { totals.new.items ≡ moved_totals problem.now reading.now zone }
     ensures room { totals.old.room ≤ totals.new.room }
     ensures valid { IsValid problem.now }
@@ -51,8 +57,8 @@ fn penalties_of_move(problem: &Problem, row: u32, old: u64, new: u64) -> Terms
     requires { row < target_count problem.now }
     ensures change { result.after + penalty_term_of problem.now row old
         ≡ result.before + penalty_term_of problem.now row new }
-    ensures before { result.before ≤ 10 ^ 18 }
-    ensures after { result.after ≤ 10 ^ 18 }
+    ensures before { result.before ≤ greatest_quantity }
+    ensures after { result.after ≤ greatest_quantity }
 {
     if old == new {
         return Terms {
@@ -90,11 +96,16 @@ pub(crate) fn penalty_after(
     zone: u8,
     totals: &mut Filled<u64>,
 ) -> u128
+    // The reading, the zone, and room for the totals.
     requires well_formed { IsWellFormed problem.now reading.now }
     requires allowed { IsTrue (is_allowed problem.now reading.now.unit zone) }
     requires fits { greatest_touched problem.now ≤ totals.old.room }
+
+    // The penalty after the move.
     ensures around { result ≡ penalty_moved problem.now reading.now zone }
     ensures small { result ≤ 3 * 10 ^ 24 }
+
+    // The totals after the move.
     ensures moved { totals.new.items ≡ moved_totals problem.now reading.now zone }
     ensures room { totals.old.room ≤ totals.new.room }
     ensures valid { IsValid problem.now }

@@ -52,14 +52,21 @@ impl Drawer {
     /// The next draw, by three words: one of the free units in order, how far it goes round its
     /// allowed zones, of which there are `counts`, and the word of its acceptance.
     pub fn next(&mut self, free: &[u32], counts: &[u8]) -> Draw
+        // The drawer, before a draw.
         requires whole { self.old.taken % 3 ≡ 0 }
         requires left { self.old.taken + 3 < 2 ^ 64 }
+
+        // What is drawn from.
         requires some_free { 0 < length free.now }
         requires same_length { length counts.now ≡ length free.now }
         requires choices { All (λ m. (2 ≤ m) × (m ≤ most_zones)) counts.now }
+
+        // The draw.
         ensures drawn { (k : ℕ) → self.old.taken ≡ 3 * k
             → result ≡ draw_at self.old.seed self.old.run self.old.seat free.now counts.now k }
         ensures from { IsDrawFrom free.now counts.now result }
+
+        // The drawer after its three words.
         ensures taken { self.new ≡ record self.old { taken = self.old.taken + 3 } }
     {
         let number = self.taken / 3;

@@ -29,7 +29,8 @@ change_by_draw parts plan draw = change_of_score parts plan (moved_plan plan dra
 abbrev pub sampled_change : Parts → ℕ → ℕ → ℕ → ℕ → ℤ
 sampled_change parts prop seed run k =
     (if nat_lt 0 (length (free_units parts))
-    then change_by_draw parts (starting_plan parts prop seed run) (draw_at seed run sample_seat (free_units parts) (counts_of parts) k)
+    then change_by_draw parts (starting_plan parts prop seed run)
+    (draw_at seed run sample_seat (free_units parts) (counts_of parts) k)
     else pos 0)
 
 -- the changes of all samples, each tried on the starting plan
@@ -39,7 +40,8 @@ sampled_changes parts prop seed run = list_below sample_count (sampled_change pa
 -- from the start where one is given, else what fits the sampled changes
 abbrev pub cooling_from : Option ℕ → Parts → Params → ℕ → ℕ → Cooling
 cooling_from (Some start) parts params seed run = fixed_cooling start params
-cooling_from None parts params seed run = adaptive_cooling (sampled_changes parts params.prop seed run) params.levels params.iterations
+cooling_from None parts params seed run =
+    adaptive_cooling (sampled_changes parts params.prop seed run) params.levels params.iterations
 
 -- the temperatures of a run of a problem, by its parameters
 abbrev pub cooling_of : Parts → Params → ℕ → ℕ → Cooling

@@ -31,7 +31,8 @@ seats_of journal = map (λ (entry : Entry). entry.seat) journal
 
 -- the next draw of a seat: its first that stands in no entry
 abbrev pub next_draw : Parts → ℕ → ℕ → List Entry → ℕ → Draw
-next_draw parts seed run journal seat = draw_at seed run seat (free_units parts) (counts_of parts) (turns_of seat (seats_of journal))
+next_draw parts seed run journal seat =
+    draw_at seed run seat (free_units parts) (counts_of parts) (turns_of seat (seats_of journal))
 
 -- the entry that the seat's next draw makes of the journal's plan
 abbrev pub entry_of_seat : Setting → List Entry → ℕ → Entry
@@ -46,7 +47,13 @@ is_in_sight most front (Some state) = nat_le state.seen front && nat_le front mo
 abbrev pub look : Setting → Core → ℕ → ℕ → Reply × Core
 look s core seat front =
     (if is_in_sight (length core.journal) front (slice_get core.seats seat)
-    then (Looked, with_seat core seat (record { seen = front; reading = Some (record { front = front; unit = (next_draw s.parts s.seed s.run core.journal seat).unit }) }))
+    then (
+      Looked,
+      with_seat core seat (record {
+        seen = front;
+        reading = Some (record { front = front; unit = (next_draw s.parts s.seed s.run core.journal seat).unit });
+      }),
+    )
     else (Strange, core))
 
 -- the seat has seen the whole journal, and its reading is spent
@@ -62,7 +69,8 @@ answered s core seat decided =
 
 abbrev pub committed : Setting → ℕ → Core → ℕ → Option SeatReading → Reply × Core
 committed s limit core seat None = (Strange, core)
-committed s limit core seat (Some reading) = answered s core seat (verdict_of s.parts core.journal limit reading.front reading.unit)
+committed s limit core seat (Some reading) =
+    answered s core seat (verdict_of s.parts core.journal limit reading.front reading.unit)
 
 -- the reading of a seat, if it is there and has one
 abbrev pub reading_of : Option SeatState → Option SeatReading

@@ -15,7 +15,8 @@ entries_of_seat seat history = filter (λ (entry : Entry). entry.seat == seat) h
 -- legal
 pub record IsHistory (s : Setting) (history : List Entry) : Type 0 where
   pub beginnings : (n : ℕ) → IsLegalHistory s (take n history)
-  pub numbers : (seat : ℕ) → map (λ (entry : Entry). entry.number) (entries_of_seat seat history) ≡ range_with_len 0 (turns_of seat (seats_of history))
+  pub numbers : (seat : ℕ) → map (λ (entry : Entry). entry.number) (entries_of_seat seat history)
+      ≡ range_with_len 0 (turns_of seat (seats_of history))
   pub last_plan : IsLegalPlan s.parts (plan_of_history s history)
 
 -- the journal of a world is a history of at most as many entries as it may have, each of one of its seats

@@ -11,7 +11,8 @@ use Rattle.mz_history.specs.Replay.{Setting, plan_of_history}
 -- its old one; a refused entry changes nothing
 abbrev pub changes : Parts → Entry → Item → Bool
 changes parts entry (unit_item unit) = entry.accepted && entry.unit == unit
-changes parts entry (row_item row) = entry.accepted && not (gain_of parts row entry.unit entry.old == gain_of parts row entry.unit entry.new)
+changes parts entry (row_item row) =
+    entry.accepted && not (gain_of parts row entry.unit entry.old == gain_of parts row entry.unit entry.new)
 
 -- the entry changes an item of the unit
 abbrev pub changes_around : Parts → ℕ → Entry → Bool
@@ -29,4 +30,5 @@ value_of_item s history item = value_in_plan s.parts (plan_of_history s history)
 -- values of items as they were read behind `front` entries: each that no later entry changes is that of the history
 pub record IsCurrent (s : Setting) (history : List Entry) (front : ℕ) (values : List (Item × ℕ)) : Type 0 where
   pub seen : front ≤ length history
-  pub current : All (λ (read : Item × ℕ). list_any (λ entry. changes s.parts entry read.0) (drop front history) ≡ false → read.1 ≡ value_of_item s history read.0) values
+  pub current : All (λ (read : Item × ℕ). list_any (λ entry. changes s.parts entry read.0) (drop front history) ≡ false
+      → read.1 ≡ value_of_item s history read.0) values

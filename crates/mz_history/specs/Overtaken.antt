@@ -16,4 +16,5 @@ pub record IsOvertakenCommit (s : Setting) (core : Core) (seat position : ℕ) :
   pub from : reading.front ≤ position
   pub within : position < length core.journal
   pub accepted : (slice_index_or core.journal position no_entry).accepted ≡ true
-  pub changed : Any (λ item. changes s.parts (slice_index_or core.journal position no_entry) item ≡ true) (items_of s.parts reading.unit)
+  pub changed : Any (λ item. changes s.parts (slice_index_or core.journal position no_entry) item ≡ true)
+      (items_of s.parts reading.unit)

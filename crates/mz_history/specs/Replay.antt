@@ -23,13 +23,15 @@ turns_of seat turns = count_by (λ turn. turn == seat) turns
 -- the entry of a seat's turn, which takes the seat's next unused draw, after the earlier turns
 abbrev pub entry_of_turn : Setting → List ℕ → List ℕ → ℕ → Entry
 entry_of_turn s earlier plan seat =
-    next_entry s.parts s.cooling plan (length earlier) seat (draw_at s.seed s.run seat (free_units s.parts) (counts_of s.parts) (turns_of seat earlier))
+    next_entry s.parts s.cooling plan (length earlier) seat
+    (draw_at s.seed s.run seat (free_units s.parts) (counts_of s.parts) (turns_of seat earlier))
 
 -- the entries of turns that follow earlier ones, from a plan on
 unfoldable pub entries_from : Setting → List ℕ → List ℕ → List ℕ → List Entry
 entries_from s earlier plan [] = []
 entries_from s earlier plan (seat ∷ turns) =
-    entry_of_turn s earlier plan seat ∷ entries_from s (earlier ++ seat ∷ []) (plan_after plan (entry_of_turn s earlier plan seat)) turns
+    entry_of_turn s earlier plan seat
+    ∷ entries_from s (earlier ++ seat ∷ []) (plan_after plan (entry_of_turn s earlier plan seat)) turns
 
 -- the history that a list of turns plays from the starting plan
 abbrev pub replay_of : Setting → List ℕ → List Entry

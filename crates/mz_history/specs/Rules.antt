@@ -35,10 +35,12 @@ pub record AreFixed (start : ℕ) (params : Params) (rules : Rules) : Type 0 whe
 
 -- what a history of a problem is played with
 abbrev pub setting_with : Parts → Rules → ℕ → ℕ → Setting
-setting_with parts rules seed run = record { parts = parts; cooling = rules.schedule; prop = rules.prop; seed = seed; run = run }
+setting_with parts rules seed run =
+    record { parts = parts; cooling = rules.schedule; prop = rules.prop; seed = seed; run = run }
 
 -- what the play of some turns leaves: their history's entries, its plan, and the plan's score
-pub record IsReplayed (s : Setting) (turns : List ℕ) (entries : List Entry) (plan : List ℕ) (score : Score) : Type 0 where
+pub record IsReplayed (s : Setting) (turns : List ℕ) (entries : List Entry) (plan : List ℕ) (score : Score)
+    : Type 0 where
   pub entries_are : entries ≡ replay_of s turns
   pub history : IsLegalHistory s entries
   pub plan_is : plan ≡ plan_of_history s entries

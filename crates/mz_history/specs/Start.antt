@@ -16,7 +16,8 @@ free_before parts unit = length (places_below unit (is_free parts))
 
 -- the zone of a unit that isn't drawn: the available zone if it is allowed, else the first allowed zone
 abbrev pub resting_zone : Parts → ℕ → ℕ
-resting_zone parts unit = if is_allowed parts unit parts.available then parts.available else slice_index (allowed_zones parts unit) 0
+resting_zone parts unit =
+    if is_allowed parts unit parts.available then parts.available else slice_index (allowed_zones parts unit) 0
 
 -- whether a word draws a share of so many millionths
 abbrev pub is_drawn : ℕ → ℕ → Bool
@@ -29,7 +30,9 @@ starting_zone parts prop seed run unit =
     let zones = allowed_zones parts unit in
     let place = 2 * free_before parts unit in
     if is_free parts unit
-    then (if is_drawn prop (word_at seed run start_seat place) then slice_index zones (pick_of (length zones) (word_at seed run start_seat (place + 1))) else resting_zone parts unit)
+    then (if is_drawn prop (word_at seed run start_seat place)
+    then slice_index zones (pick_of (length zones) (word_at seed run start_seat (place + 1)))
+    else resting_zone parts unit)
     else slice_index zones 0
 
 -- the plan that a run starts from

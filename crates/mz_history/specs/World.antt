@@ -1,7 +1,7 @@
 -- What contracts see of a world, and what its type keeps.
 use Rattle.std.specs.Prelude.{◌≡◌, ◌<◌, ◌≤◌, ◌^◌, ℕ, List, length, Some}
 use Rattle.std.specs.List.{All}
-use Rattle.mz_num.specs.Limits.{most_proposals, most_runs, most_workers}
+use Rattle.mz_num.specs.Limits.{greatest_score, most_proposals, most_runs, most_workers}
 use Rattle.mz_model.specs.declared.score.Score.{Score}
 use Rattle.mz_model.specs.Parts.{unit_count}
 use Rattle.mz_model.specs.Plans.{IsLegalPlan}
@@ -20,6 +20,11 @@ pub record WorldState : Type 0 where
   pub setting : Setting
   pub limit : ℕ
   pub core : Core
+
+-- a world, by what it is played with, its journal and its seats
+abbrev pub world_of : Setting → ℕ → List Entry → List SeatState → WorldState
+world_of setting limit journal seats =
+    record { setting = setting; limit = limit; core = record { journal = journal; seats = seats } }
 
 -- what never changes
 pub record IsPlayable (s : Setting) (limit seats : ℕ) : Type 0 where
@@ -47,7 +52,7 @@ pub record IsPlayed (s : Setting) (journal : List Entry) (plan : List ℕ) (scor
   pub plan_is : plan ≡ plan_of_history s journal
   pub legal : IsLegalPlan s.parts plan
   pub score_is : score ≡ score_of_plan s.parts plan
-  pub small : score.total ≤ 10 ^ 25
+  pub small : score.total ≤ greatest_score
 
 pub record IsWorld (w : WorldState) (plan : List ℕ) (score : Score) (room : ℕ) : Type 0 where
   pub playable : IsPlayable w.setting w.limit (length w.core.seats)

@@ -1,6 +1,7 @@
 //! Which entry overtakes a reading: looked up in the journal itself.
 ghost use Rattle.std.specs.Prelude.{◌≡◌, ◌<◌, ◌≤◌, ◌==◌, not, length, slice_index_or};
 ghost use Rattle.std.specs.List.{All, list_any};
+ghost use Rattle.mz_num.specs.Limits.{most_proposals};
 ghost use Rattle.mz_model.specs.Boundary.{neighbours_of};
 ghost use Rattle.mz_model.specs.Parts.{unit_count};
 ghost use Rattle.mz_model.specs.Targets.{gain_of, touched_rows};
@@ -20,7 +21,7 @@ pub(crate) fn overtaking_entry(
 ) -> Option<u32>
     requires unit { unit < unit_count problem.now }
     requires moves { All (IsMove problem.now) journal.now }
-    requires few { length journal.now ≤ 10000000 }
+    requires few { length journal.now ≤ most_proposals }
     ensures { result ≡ overtaking_entry problem.now journal.now front unit }
 {
     let mut last = None;
@@ -75,7 +76,10 @@ fn is_neighbour(problem: &Problem, unit: u32, other: u32) -> bool
 fn changes_row(problem: &Problem, unit: u32, entry: &Entry) -> bool
     requires unit { unit < unit_count problem.now }
     requires moves { IsMove problem.now entry.now }
-    ensures { result ≡ list_any (λ row. not (gain_of problem.now row entry.now.unit entry.now.old == gain_of problem.now row entry.now.unit entry.now.new)) (touched_rows problem.now unit) }
+    ensures { result ≡ list_any
+        (λ row. not (gain_of problem.now row entry.now.unit entry.now.old
+        == gain_of problem.now row entry.now.unit entry.now.new))
+        (touched_rows problem.now unit) }
 {
     for i in 0..problem.touched(unit) {
         let row = problem.touched_row(unit, i);

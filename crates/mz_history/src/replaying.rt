@@ -2,6 +2,7 @@
 ghost use Rattle.std.specs.Prelude.{◌≡◌, ◌<◌, ◌≤◌, [], length, IfOk};
 ghost use Rattle.std.specs.List.{All};
 ghost use Rattle.mz_num.specs.Places.{list_below};
+ghost use Rattle.mz_num.specs.Limits.{most_runs, most_workers};
 ghost use Rattle.mz_model.specs.Zones.{free_units};
 ghost use Rattle.mz_history.specs.Rules.{IsReplayed, IsRules, setting_with};
 ghost use Rattle.mz_history.specs.SeatWords.{words_after};
@@ -36,12 +37,18 @@ pub fn replay(
     run: u32,
     turns: &[u8],
 ) -> Result<Replayed, NoMemory>
+    // What is played, and from which words.
     requires rules { IsRules rules.now }
-    requires runs { run ≤ 1000 }
-    requires seats { All (λ turn. turn < 60) turns.now }
+    requires runs { run ≤ most_runs }
+
+    // The turns.
+    requires seats { All (λ turn. turn < most_workers) turns.now }
     requires few { length turns.now ≤ rules.now.limit }
     requires some_free { 0 < length turns.now → 0 < length (free_units problem.now) }
-    ensures { IfOk result (λ played. IsReplayed (setting_with problem.now rules.now seed run) turns.now played.entries.items played.plan played.score) }
+
+    // The history with its last plan.
+    ensures { IfOk result (λ played. IsReplayed (setting_with problem.now rules.now seed run) turns.now
+        played.entries.items played.plan played.score) }
 {
     let mut plan = start(alloc, problem, rules.prop, seed, run)?;
     let mut score = evaluate(problem, &plan);
@@ -62,8 +69,8 @@ pub fn replay(
 
 /// A drawer for each seat, at its first draw.
 fn new_drawers(alloc: Global, seed: u64, run: u32) -> Result<Vec<Drawer>, NoMemory>
-    requires { run ≤ 1000 }
-    ensures { IfOk result (λ drawers. drawers.items ≡ list_below 60 (words_after seed run [])) }
+    requires { run ≤ most_runs }
+    ensures { IfOk result (λ drawers. drawers.items ≡ list_below most_workers (words_after seed run [])) }
 {
     let mut drawers = Vec::with_capacity(alloc, SEATS as usize)?;
     for seat in 0..SEATS {

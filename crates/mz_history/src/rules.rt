@@ -1,5 +1,6 @@
 //! What decides whether a proposal is accepted.
 ghost use Rattle.std.specs.Prelude.{◌≡◌, ◌≤◌, ◌^◌, ℕ, IfOk, IsTrue, Some, is_some};
+ghost use Rattle.mz_num.specs.Limits.{greatest_quantity, million};
 ghost use Rattle.mz_params.specs.ParamFile.{IsAccepted};
 ghost use Rattle.mz_model.specs.declared.parts.Parts.{Parts};
 ghost use Rattle.mz_history.specs.Cooling.{AreRulesOf};
@@ -25,10 +26,17 @@ impl Rules {
     /// by their factor from level to level (the manual of Marxan with Zones 1.0.1; the units are
     /// this project's profile).
     pub fn fixed(alloc: Global, params: &Params) -> Result<Rules, NoMemory>
+        // The parameters.
         requires accepted { IsAccepted params.now }
         requires given { IsTrue (is_some params.now.start) }
-        ensures fixed { IfOk result (λ rules. (start : ℕ) → params.now.start ≡ Some start → AreFixed start params.now rules) }
-        ensures asked { IfOk result (λ rules. (parts : Parts) (seed run : ℕ) → AreRulesOf parts params.now seed run rules) }
+
+        // The temperatures that they ask for.
+        ensures fixed { IfOk result (λ rules. (start : ℕ) → params.now.start ≡ Some start
+            → AreFixed start params.now rules) }
+        ensures asked { IfOk result (λ rules. (parts : Parts) (seed run : ℕ)
+            → AreRulesOf parts params.now seed run rules) }
+
+        // What every call asks of rules.
         ensures limit { IfOk result (λ rules. rules.limit ≡ params.now.iterations) }
         ensures rules { IfOk result IsRules }
     {
@@ -55,7 +63,7 @@ impl Rules {
 fn given_start(start: Option<Ten4>) -> u64
     requires { IsTrue (is_some start) }
     ensures value { Some result ≡ start }
-    ensures small { result ≤ 10 ^ 18 }
+    ensures small { result ≤ greatest_quantity }
 {
     match start {
         Some(start) => start.0,
@@ -65,7 +73,7 @@ fn given_start(start: Option<Ten4>) -> u64
 
 /// The given factor of a step, in millionths.
 fn given_factor(cool: Mic6) -> u32
-    requires { cool ≤ 1000000 }
+    requires { cool ≤ million }
     ensures { result ≡ cool }
 {
     cool.0 as u32

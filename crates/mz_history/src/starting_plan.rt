@@ -1,5 +1,6 @@
 //! The starting plan.
 ghost use Rattle.std.specs.Prelude.{◌≡◌, ◌<◌, ◌≤◌, ◌+◌, ◌*◌, ◌^◌, ◌/◌, IsTrue, IfOk};
+ghost use Rattle.mz_num.specs.Limits.{million, most_runs};
 ghost use Rattle.mz_model.specs.Parts.{unit_count};
 ghost use Rattle.mz_model.specs.Plans.{IsLegalPlan};
 ghost use Rattle.mz_model.specs.Valid.{IsValid};
@@ -25,8 +26,8 @@ pub fn start(
     seed: u64,
     run: u32,
 ) -> Result<Plan, NoMemory>
-    requires share { prop ≤ 1000000 }
-    requires runs { run ≤ 1000 }
+    requires share { prop ≤ million }
+    requires runs { run ≤ most_runs }
     ensures plan { IfOk result (λ plan. plan ≡ starting_plan problem.now prop seed run) }
     ensures legal { IfOk result (λ plan. IsLegalPlan problem.now plan) }
     ensures valid { IfOk result (λ _. IsValid problem.now) }
@@ -48,8 +49,8 @@ fn starting_zones(
     seed: u64,
     run: u32,
 ) -> Result<Vec<u8>, NoMemory>
-    requires share { prop ≤ 1000000 }
-    requires runs { run ≤ 1000 }
+    requires share { prop ≤ million }
+    requires runs { run ≤ most_runs }
     ensures plan { IfOk result (λ zones. zones.items ≡ starting_plan problem.now prop seed run) }
     ensures legal { IfOk result (λ zones. IsLegalPlan problem.now zones.items) }
     ensures valid { IfOk result (λ _. IsValid problem.now) }
@@ -64,7 +65,7 @@ fn starting_zones(
 
 /// The number below which a word draws a share of so many millionths.
 fn share_of_words(prop: Mic6) -> u64
-    requires { prop ≤ 1000000 }
+    requires { prop ≤ million }
     ensures { result ≡ prop * 2 ^ 32 / 10 ^ 6 }
 {
     (prop.0 << 32) / 1_000_000
@@ -72,13 +73,20 @@ fn share_of_words(prop: Mic6) -> u64
 
 /// The starting zone of a unit; a free one takes the drawer's next two words.
 fn starting_zone(problem: &Problem, unit: u32, prop: Mic6, drawer: &mut Drawer) -> u8
+    // The unit and the share.
     requires valid { IsValid problem.now }
     requires unit { unit < unit_count problem.now }
-    requires share { prop ≤ 1000000 }
+    requires share { prop ≤ million }
+
+    // The drawer, behind the words of the units before.
     requires seat { drawer.old.seat ≡ start_seat }
     requires words { drawer.old.taken ≡ 2 * free_before problem.now unit }
+
+    // The zone.
     ensures zone { result ≡ starting_zone problem.now prop drawer.old.seed drawer.old.run unit }
     ensures allowed { IsTrue (is_allowed problem.now unit result) }
+
+    // The drawer, behind the unit's words.
     ensures words { drawer.new ≡ record drawer.old { taken = 2 * free_before problem.now (unit + 1) } }
 {
     let zones = problem.allowed_zones(unit);

@@ -3,6 +3,7 @@ ghost use Rattle.std.specs.Prelude.{◌≡◌, ◌<◌, ◌≤◌, ◌&&◌, ◌
 ghost use Rattle.mz_model.specs.Parts.{unit_count};
 ghost use Rattle.mz_model.specs.Zones.{free_units};
 ghost use Rattle.mz_num.specs.Places.{list_below};
+ghost use Rattle.mz_num.specs.Limits.{most_proposals, most_runs, most_workers};
 ghost use Rattle.mz_history.specs.Core.{commit, core_step, entry_of_seat, is_in_sight, look, new_seat, next_draw, reading_of, seats_of, spent};
 ghost use Rattle.mz_history.specs.declared.event.Event.TheVariants.{Commit};
 ghost use Rattle.mz_history.specs.declared.event.Reply.TheVariants.{Again};
@@ -10,6 +11,7 @@ ghost use Rattle.mz_history.specs.History.{IsSound};
 ghost use Rattle.mz_history.specs.Overtaken.{IsOvertakenCommit};
 ghost use Rattle.mz_history.specs.Replay.{turns_of};
 ghost use Rattle.mz_history.specs.Rules.{IsRules, setting_with};
+ghost use Rattle.mz_history.specs.World.{world_of};
 
 use crate::decision::decide;
 use crate::entry::Entry;
@@ -43,13 +45,15 @@ pub struct World {
 impl Model for World {
     ghost use Rattle.std.specs.Prelude.{vec_capacity};
     ghost use Rattle.mz_history.specs.Rules.{setting_with};
-    ghost use Rattle.mz_history.specs.World.{IsWorld, WorldState};
+    ghost use Rattle.mz_history.specs.World.{IsWorld, WorldState, world_of};
 
     ghost Value = { WorldState };
 
-    ghost view = { λ w. record { setting = setting_with w.problem.value w.rules.value w.seed w.run; limit = w.rules.value.limit; core = record { journal = w.journal.items; seats = w.seats.items } } };
+    ghost view = { λ w. world_of (setting_with w.problem.value w.rules.value w.seed w.run) w.rules.value.limit
+        w.journal.items w.seats.items };
 
-    ghost invariant = { λ w. IsWorld (record { setting = setting_with w.problem.value w.rules.value w.seed w.run; limit = w.rules.value.limit; core = record { journal = w.journal.items; seats = w.seats.items } }) w.plan w.score (vec_capacity w.journal) };
+    ghost invariant = { λ w. IsWorld (world_of (setting_with w.problem.value w.rules.value w.seed w.run)
+        w.rules.value.limit w.journal.items w.seats.items) w.plan w.score (vec_capacity w.journal) };
 }
 
 impl World {
@@ -63,10 +67,11 @@ impl World {
         seats: u8,
     ) -> Result<World, NoMemory>
         requires rules { IsRules rules.now }
-        requires runs { run ≤ 1000 }
+        requires runs { run ≤ most_runs }
         requires some_free { 0 < length (free_units problem.now) }
-        requires workers { seats ≤ 60 }
-        ensures { IfOk result (λ world. world ≡ record { setting = setting_with problem.now rules.now seed run; limit = rules.now.limit; core = record { journal = []; seats = list_below seats (λ _. new_seat) } }) }
+        requires workers { seats ≤ most_workers }
+        ensures { IfOk result (λ world. world ≡ world_of (setting_with problem.now rules.now seed run) rules.now.limit
+            [] (list_below seats (λ _. new_seat))) }
     {
         let plan = start(alloc, problem, rules.prop, seed, run)?;
         let score = evaluate(problem, &plan);
@@ -94,13 +99,19 @@ impl World {
 
     /// What the event is answered, and what it leaves. No memory is taken.
     pub fn step(&mut self, problem: &Problem, rules: &Rules, event: Event) -> Reply
+        // The world's own problem and rules.
         requires problem { problem.now ≡ self.old.setting.parts }
         requires schedule { rules.now.schedule ≡ self.old.setting.cooling }
         requires limit { rules.now.limit ≡ self.old.limit }
+
+        // The answer, and the core after it.
         ensures reply { result ≡ (core_step self.old.setting self.old.limit self.old.core event).0 }
         ensures core { self.new.core ≡ (core_step self.old.setting self.old.limit self.old.core event).1 }
         ensures setting { (self.new.setting ≡ self.old.setting) × (self.new.limit ≡ self.old.limit) }
-        ensures overtaken { (seat position : ℕ) → event ≡ Commit seat → result ≡ Again position → IsOvertakenCommit self.old.setting self.old.core seat position }
+
+        // What Again names.
+        ensures overtaken { (seat position : ℕ) → event ≡ Commit seat → result ≡ Again position
+            → IsOvertakenCommit self.old.setting self.old.core seat position }
     {
         match event {
             Event::Look(seat, front) => self.look(problem, seat, front),
@@ -127,9 +138,12 @@ impl World {
     }
 
     fn commit(&mut self, problem: &Problem, rules: &Rules, seat: u8) -> Reply
+        // The world's own problem and rules.
         requires problem { problem.now ≡ self.old.setting.parts }
         requires schedule { rules.now.schedule ≡ self.old.setting.cooling }
         requires limit { rules.now.limit ≡ self.old.limit }
+
+        // The answer, and the core after it.
         ensures reply { result ≡ (commit self.old.setting self.old.limit self.old.core seat).0 }
         ensures core { self.new.core ≡ (commit self.old.setting self.old.limit self.old.core seat).1 }
         ensures setting { (self.new.setting ≡ self.old.setting) × (self.new.limit ≡ self.old.limit) }
@@ -164,12 +178,19 @@ impl World {
 
     /// Decides the seat's next draw.
     fn add(&mut self, problem: &Problem, rules: &Rules, seat: u8) -> Entry
+        // The world's own problem and rules.
         requires problem { problem.now ≡ self.old.setting.parts }
         requires schedule { rules.now.schedule ≡ self.old.setting.cooling }
+
+        // The seat, and room for an entry.
         requires seat { seat < length self.old.core.seats }
         requires not_full { length self.old.core.journal < self.old.limit }
+
+        // The entry, and the core after it.
         ensures entry { result ≡ entry_of_seat self.old.setting self.old.core.journal seat }
-        ensures now { self.new ≡ record self.old { core = spent (record self.old.core { journal = self.old.core.journal ++ result ∷ [] }) seat } }
+        ensures now { self.new ≡ record self.old {
+          core = spent (record self.old.core { journal = self.old.core.journal ++ result ∷ [] }) seat;
+        } }
     {
         let length = self.journal.len() as u32;
         let draw = next_draw(problem, self.journal.as_slice(), self.seed, self.run, seat);
@@ -234,10 +255,13 @@ fn reading_of(seats: &[SeatState], seat: u8) -> Option<SeatReading>
 
 /// The seat's next draw: its first that stands in no entry.
 fn next_draw(problem: &Problem, journal: &[Entry], seed: u64, run: u32, seat: u8) -> Draw
-    requires runs { run ≤ 1000 }
-    requires seats { seat < 60 }
+    // The run, the seat, and what there is to draw from.
+    requires runs { run ≤ most_runs }
+    requires seats { seat < most_workers }
     requires some_free { 0 < length (free_units problem.now) }
-    requires few { length journal.now ≤ 10000000 }
+    requires few { length journal.now ≤ most_proposals }
+
+    // The draw.
     ensures draw { result ≡ next_draw problem.now seed run journal.now seat }
     ensures in_range { result.unit < unit_count problem.now }
 {

@@ -11,3 +11,4 @@ pub mod ShareLaws
 pub mod TargetLaws
 pub mod TouchLaws
 pub mod ZoneLaws
+pub mod ZoneRank

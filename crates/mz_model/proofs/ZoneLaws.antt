@@ -9,6 +9,7 @@ use Rattle.std.proofs.lemmas.List.Elements.{All-get_or, All-map, All-same, All-w
 use Rattle.std.proofs.lemmas.Nat.{mod_below}
 use Rattle.std.proofs.lemmas.Nat.Bits.{bit_at_above}
 use Rattle.mz_model.specs.declared.parts.Parts.{Parts}
+use Rattle.mz_model.proofs.ZoneRank.{position-places_below}
 use Rattle.mz_model.specs.Parts.{unit_count, zone_count}
 use Rattle.mz_num.specs.Places.{places_below}
 use Rattle.mz_num.specs.ZoneSet.{IsZoneSet}
@@ -84,6 +85,13 @@ step-fits parts unit zone zones valid h allowed e =
     let place : position_or_len (λ k. k == zone) zones < length zones = position_or_len-Contains zones zone there in
     let len : length zones ≡ length (allowed_zones parts unit) = ap length e in
     record { some_zone = omega arith; few = omega (arith, length-allowed_zones parts unit, valid.small.zones); place = place }
+
+-- the place of a unit's zone, by how many zones of its set are lower
+pub step-place : (parts : Parts) (unit zone set : ℕ) (zones : List ℕ) → IsValid parts → unit < unit_count parts → IsTrue (is_allowed parts unit zone) → set ≡ get_or parts.allowed unit 0 → zones ≡ allowed_zones parts unit → length (places_below zone (λ k. bit_at set k == 1)) ≡ position_or_len (λ k. k == zone) zones
+unfolding allowed_zones
+step-place parts unit zone set zones valid h allowed is e =
+    ap (λ s. length (places_below zone (λ k. bit_at s k == 1))) is
+    ∙ sym (ap (position_or_len (λ k. k == zone)) e ∙ position-places_below (zone_count parts) zone (is_allowed parts unit) (is_allowed-in_range parts unit zone valid h allowed) allowed)
 
 -- where a step comes to
 pub record IsStepTo (parts : Parts) (unit zone shift new : ℕ) : Type 0 where

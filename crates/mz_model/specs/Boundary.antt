@@ -1,15 +1,16 @@
 -- Boundaries: the pairs of neighbours, and the term of a length between two zones.
-use Rattle.std.specs.Prelude.{ℕ, ◌*◌, ◌≤◌, ◌^◌, List, [], ◌∷◌, length, slice_index}
+use Rattle.std.specs.Prelude.{ℕ, ◌*◌, ◌≤◌, List, [], ◌∷◌, length, slice_index}
 use Rattle.std.specs.List.{flat_map}
 use Rattle.mz_num.specs.Round.{round}
 use Rattle.mz_model.specs.declared.neighbour.Neighbour.{Neighbour}
 use Rattle.mz_model.specs.declared.parts.Parts.{Parts}
 use Rattle.mz_model.specs.Parts.{rate_at}
 use Rattle.mz_num.specs.Places.{greatest_below, values_at}
+use Rattle.mz_num.specs.Limits.{greatest_quantity, million}
 
 -- the term of a boundary of that length between two zones
 unfoldable pub edge_term_of : Parts → ℕ → ℕ → ℕ → ℕ
-edge_term_of parts len k l = round (len * rate_at parts k l) 1000000
+edge_term_of parts len k l = round (len * rate_at parts k l) million
 
 -- a unit as the neighbour of another, with the length between the two
 abbrev pub as_neighbour : ℕ → ℕ → Neighbour
@@ -33,5 +34,5 @@ greatest_rate parts = greatest_below (length parts.rates) (slice_index parts.rat
 
 -- a length within the limits: at most 10^18, and so is its term under the greatest rate
 pub record IsLength (parts : Parts) (len : ℕ) : Type 0 where
-  pub small : len ≤ 10 ^ 18
-  pub term : round (len * greatest_rate parts) 1000000 ≤ 10 ^ 18
+  pub small : len ≤ greatest_quantity
+  pub term : round (len * greatest_rate parts) million ≤ greatest_quantity

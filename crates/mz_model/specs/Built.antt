@@ -9,6 +9,7 @@ use Rattle.mz_model.specs.Amounts.{holders_of}
 use Rattle.mz_model.specs.Boundary.{neighbours_of}
 use Rattle.mz_model.specs.Parts.{unit_count, zone_count, feature_count, fraction_at}
 use Rattle.mz_num.specs.Places.{list_below, greatest_below}
+use Rattle.mz_num.specs.Limits.{million}
 use Rattle.mz_model.specs.Targets.{as_touch, touches_of}
 use Rattle.mz_model.specs.Valid.{IsValid}
 use Rattle.mz_model.specs.Zones.{allowed_zones, free_units, counts_of}
@@ -51,7 +52,7 @@ pub record AreListsOf
 -- of the row of a zone the whole
 abbrev pub greatest_part_in : Parts → ℕ → Option ℕ → ℕ
 greatest_part_in parts feature None = greatest_below (zone_count parts) (λ zone. fraction_at parts zone feature)
-greatest_part_in parts feature (Some own) = 1000000
+greatest_part_in parts feature (Some own) = million
 
 abbrev pub greatest_part_of : Parts → Target → ℕ
 greatest_part_of parts row = greatest_part_in parts row.feature row.zone

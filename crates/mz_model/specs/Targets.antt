@@ -7,11 +7,12 @@ use Rattle.mz_model.specs.declared.touch.Touch.{Touch}
 use Rattle.mz_model.specs.Amounts.{amount_of}
 use Rattle.mz_model.specs.Parts.{unit_count, zone_count, target_count, fraction_at, target_at}
 use Rattle.mz_num.specs.Places.{sum_below, greatest_below, places_below}
+use Rattle.mz_num.specs.Limits.{million}
 
 -- what an amount in a zone counts: for an overall row, which has no zone, the rounded part of it that the
 -- fraction says; for a zone row all of it in the row's zone, and nothing elsewhere
 abbrev pub counted : Option ℕ → ℕ → ℕ → ℕ → ℕ
-counted None amount fraction zone = round (amount * fraction) 1000000
+counted None amount fraction zone = round (amount * fraction) million
 counted (Some own) amount fraction zone = cond (zone == own) amount 0
 
 -- what an amount of a row's feature counts for the row in a zone
@@ -47,11 +48,11 @@ shortfall_of_plan parts zones = sum_below (target_count parts) (λ row. shortfal
 
 -- whether what is held reaches the part of the level that MISSLEVEL asks, in millionths: then the target is met
 abbrev pub is_met : ℕ → ℕ → ℕ → Bool
-is_met miss_level level held = nat_le (miss_level * level) (held * 1000000)
+is_met miss_level level held = nat_le (miss_level * level) (held * million)
 
 -- a target is met where what is held reaches the part of the level that MISSLEVEL asks, in millionths
 abbrev pub IsMet : ℕ → ℕ → ℕ → Type 0
-IsMet miss_level level held = miss_level * level ≤ held * 1000000
+IsMet miss_level level held = miss_level * level ≤ held * million
 
 -- whether a unit gains for a target row in some zone
 unfoldable pub is_touched : Parts → ℕ → ℕ → Bool

@@ -1,5 +1,5 @@
 -- What makes parts a problem: few enough things, lists that fit one another, and quantities within the limits.
-use Rattle.std.specs.Prelude.{◌≡◌, ℕ, ◌*◌, ◌<◌, ◌≤◌, ◌^◌, ◌≢◌, None, List, length, slice_index, IsSomeAnd}
+use Rattle.std.specs.Prelude.{◌≡◌, ℕ, ◌*◌, ◌<◌, ◌≤◌, ◌≢◌, None, List, length, slice_index, IsSomeAnd}
 use Rattle.std.specs.List.{All, AllPairs}
 use Rattle.mz_model.specs.declared.parts.Parts.{Parts}
 use Rattle.mz_model.specs.declared.parts.Target.{Target}
@@ -9,16 +9,17 @@ use Rattle.mz_model.specs.Parts.{unit_count, zone_count, feature_count, target_c
 use Rattle.mz_num.specs.Order.{IsBefore}
 use Rattle.mz_num.specs.Places.{sum_below, greatest_below}
 use Rattle.mz_num.specs.ZoneSet.{IsZoneSet}
+use Rattle.mz_num.specs.Limits.{greatest_quantity, most_amount_rows, most_boundary_rows, most_features, most_target_rows, most_units, most_zones}
 use Rattle.mz_model.specs.Targets.{gain_of}
 
 -- the numbers of things
 pub record IsSmall (parts : Parts) : Type 0 where
-  pub units : unit_count parts ≤ 100000
-  pub zones : zone_count parts ≤ 60
-  pub features : feature_count parts ≤ 10000
-  pub rows : target_count parts ≤ 100000
-  pub edges : length parts.edges ≤ 1000000
-  pub amounts : length parts.amounts ≤ 5000000
+  pub units : unit_count parts ≤ most_units
+  pub zones : zone_count parts ≤ most_zones
+  pub features : feature_count parts ≤ most_features
+  pub rows : target_count parts ≤ most_target_rows
+  pub edges : length parts.edges ≤ most_boundary_rows
+  pub amounts : length parts.amounts ≤ most_amount_rows
 
 -- no number stands twice in the list
 abbrev pub AreDistinct : List ℕ → Type 0
@@ -70,15 +71,17 @@ pub record IsInShape (parts : Parts) : Type 0 where
 
 -- the quantities that are at most 10^18
 pub record IsWithinLimits (parts : Parts) : Type 0 where
-  pub cost : sum_below (unit_count parts) (λ unit. greatest_below (zone_count parts) (cost_at parts unit)) ≤ 10 ^ 18
-  pub rate : All (λ rate. rate ≤ 10 ^ 18) parts.rates
+  pub cost : sum_below (unit_count parts) (λ unit. greatest_below (zone_count parts) (cost_at parts unit))
+      ≤ greatest_quantity
+  pub rate : All (λ rate. rate ≤ greatest_quantity) parts.rates
   pub pairs : All (λ edge. IsLength parts edge.2) parts.edges
   pub outer : All (IsLength parts) parts.outer
-  pub amount : (feature : ℕ) → feature < feature_count parts → total_of parts.amounts feature ≤ 10 ^ 18
+  pub amount : (feature : ℕ) → feature < feature_count parts → total_of parts.amounts feature ≤ greatest_quantity
   pub gain : (row : ℕ) → row < target_count parts
-      → sum_below (unit_count parts) (λ unit. greatest_below (zone_count parts) (gain_of parts row unit)) ≤ 10 ^ 18
-  pub level : (row : ℕ) → row < target_count parts → (target_at parts row).level ≤ 10 ^ 18
-  pub weight : (row : ℕ) → row < target_count parts → (target_at parts row).weight ≤ 10 ^ 18
+      → sum_below (unit_count parts) (λ unit. greatest_below (zone_count parts) (gain_of parts row unit))
+      ≤ greatest_quantity
+  pub level : (row : ℕ) → row < target_count parts → (target_at parts row).level ≤ greatest_quantity
+  pub weight : (row : ℕ) → row < target_count parts → (target_at parts row).weight ≤ greatest_quantity
 
 -- parts that are a problem
 pub record IsValid (parts : Parts) : Type 0 where

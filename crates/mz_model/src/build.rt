@@ -7,6 +7,7 @@ ghost use Rattle.mz_model.specs.Built.{greatest_part_of, neighbour_lists, touch_
 ghost use Rattle.mz_model.specs.Groups.{HasRoom, counts_with, filled};
 ghost use Rattle.mz_model.specs.Parts.{unit_count, zone_count, feature_count, target_count};
 ghost use Rattle.mz_num.specs.Places.{list_below, places_below};
+ghost use Rattle.mz_num.specs.Limits.{most_zones};
 ghost use Rattle.mz_model.specs.Valid.{IsInShape, IsValid};
 ghost use Rattle.mz_model.specs.Zones.{allowed_zones, counts_of, free_units};
 
@@ -70,7 +71,7 @@ fn zones_by_unit(alloc: Global, parts: &Parts) -> Result<Groups<u8>, NoMemory>
 
 /// Adds the zones of a set to an empty list.
 fn add_zones(set: u64, zones: u8, list: &mut Vec<u8>) -> Result<(), NoMemory>
-    requires few { zones ≤ 60 }
+    requires few { zones ≤ most_zones }
     requires empty { list.old.items ≡ [] }
     ensures { IfOk result (λ _. list.new.items ≡ places_below zones (λ zone. bit_at set zone == 1)) }
 {

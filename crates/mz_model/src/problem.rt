@@ -1,14 +1,17 @@
 //! The problem, and what it is made of by place.
-ghost use Rattle.std.specs.Prelude.{◌≡◌, ◌%◌, ◌<◌, ◌≤◌, ◌^◌, ◌==◌, IsTrue, Some, []};
+ghost use Rattle.std.specs.Prelude.{◌≡◌, ◌*◌, ◌%◌, ◌<◌, ◌≤◌, ◌^◌, ◌==◌, IsTrue, Some, []};
 ghost use Rattle.std.specs.Prelude.{length, slice_index, slice_index_or, slice_get};
-ghost use Rattle.std.specs.List.{All, position_or_len};
+ghost use Rattle.std.specs.Int.{bit_at};
+ghost use Rattle.std.specs.List.{All};
 ghost use Rattle.mz_model.specs.Amounts.{holders_of};
 ghost use Rattle.mz_model.specs.Boundary.{IsLength, as_neighbour, edge_term_of, neighbours_of};
 ghost use Rattle.mz_model.specs.Parts.{unit_count, zone_count, feature_count, target_count};
 ghost use Rattle.mz_model.specs.Parts.{cost_at, fraction_at, outer_at, rate_at, target_at};
 ghost use Rattle.mz_model.specs.Targets.{gain_from, gain_of, held_after, touched_rows, touches_of};
 ghost use Rattle.mz_model.specs.Scores.{penalty_term_of};
+ghost use Rattle.mz_num.specs.Places.{places_below};
 ghost use Rattle.mz_num.specs.ZoneSet.{IsZoneSet};
+ghost use Rattle.mz_num.specs.Limits.{greatest_quantity, most_boundary_rows, most_features, most_target_rows, most_units, most_zones};
 ghost use Rattle.mz_model.specs.Valid.{IsPair, IsValid};
 ghost use Rattle.mz_model.specs.Zones.{allowed_zones, is_allowed, free_units, counts_of, step_of};
 
@@ -59,7 +62,7 @@ impl Problem {
     #[inline]
     pub fn units(&self) -> u32
         ensures count { result ≡ unit_count self.now }
-        ensures small { result ≤ 100000 }
+        ensures small { result ≤ most_units }
         ensures valid { IsValid self.now }
     {
         self.parts.unit_ids.len() as u32
@@ -70,7 +73,7 @@ impl Problem {
     pub fn zones(&self) -> u8
         ensures count { result ≡ zone_count self.now }
         ensures some_zone { 0 < result }
-        ensures small { result ≤ 60 }
+        ensures small { result ≤ most_zones }
         ensures valid { IsValid self.now }
     {
         self.parts.zone_ids.len() as u8
@@ -80,7 +83,7 @@ impl Problem {
     #[inline]
     pub fn features(&self) -> u32
         ensures count { result ≡ feature_count self.now }
-        ensures small { result ≤ 10000 }
+        ensures small { result ≤ most_features }
     {
         self.parts.feature_ids.len() as u32
     }
@@ -89,7 +92,7 @@ impl Problem {
     #[inline]
     pub fn targets(&self) -> u32
         ensures count { result ≡ target_count self.now }
-        ensures small { result ≤ 100000 }
+        ensures small { result ≤ most_target_rows }
     {
         self.parts.targets.len() as u32
     }
@@ -168,7 +171,7 @@ impl Problem {
     #[inline]
     pub fn counts(&self) -> &[u8]
         ensures counts { result.now ≡ counts_of self.now }
-        ensures in_range { All (λ count. (2 ≤ count) × (count ≤ 60)) result.now }
+        ensures in_range { All (λ count. (2 ≤ count) × (count ≤ most_zones)) result.now }
         ensures paired { length result.now ≡ length (free_units self.now) }
     {
         self.counts.as_slice()
@@ -189,7 +192,7 @@ impl Problem {
         requires unit { unit < unit_count self.now }
         requires zone { zone < zone_count self.now }
         ensures term { result ≡ cost_at self.now unit zone }
-        ensures small { result ≤ 10 ^ 18 }
+        ensures small { result ≤ greatest_quantity }
     {
         self.parts.costs.as_slice()[unit as usize * self.parts.zone_ids.len() + zone as usize]
     }
@@ -199,7 +202,7 @@ impl Problem {
     pub fn degree(&self, unit: u32) -> u32
         requires { unit < unit_count self.now }
         ensures count { result ≡ length (neighbours_of self.now unit) }
-        ensures small { result ≤ 2000000 }
+        ensures small { result ≤ 2 * most_boundary_rows }
         ensures valid { IsValid self.now }
     {
         self.neighbours(unit).len() as u32
@@ -209,10 +212,14 @@ impl Problem {
     #[inline]
     pub fn neighbours(&self, unit: u32) -> &[Neighbour]
         requires { unit < unit_count self.now }
+
+        // The neighbours, in order.
         ensures neighbours { result.now ≡ neighbours_of self.now unit }
+
+        // What holds of each, and how many there are.
         ensures units { All (λ neighbour. neighbour.unit < unit_count self.now) result.now }
         ensures lengths { All (λ neighbour. IsLength self.now neighbour.length) result.now }
-        ensures small { length result.now ≤ 2000000 }
+        ensures small { length result.now ≤ 2 * most_boundary_rows }
         ensures valid { IsValid self.now }
     {
         self.neighbours.at(unit as usize)
@@ -249,7 +256,7 @@ impl Problem {
         requires first { k < zone_count self.now }
         requires second { l < zone_count self.now }
         ensures term { result ≡ edge_term_of self.now len k l }
-        ensures small { result ≤ 10 ^ 18 }
+        ensures small { result ≤ greatest_quantity }
     {
         by_millionths(len, self.rate(k, l))
     }
@@ -271,8 +278,8 @@ impl Problem {
         requires { t < target_count self.now }
         ensures row { result ≡ target_at self.now t }
         ensures feature { result.feature < feature_count self.now }
-        ensures level { result.level ≤ 10 ^ 18 }
-        ensures weight { result.weight ≤ 10 ^ 18 }
+        ensures level { result.level ≤ greatest_quantity }
+        ensures weight { result.weight ≤ greatest_quantity }
     {
         self.parts.targets.as_slice()[t as usize]
     }
@@ -284,7 +291,7 @@ impl Problem {
         requires unit { unit < unit_count self.now }
         requires zone { zone < zone_count self.now }
         ensures gain { result ≡ gain_of self.now t unit zone }
-        ensures small { result ≤ 10 ^ 18 }
+        ensures small { result ≤ greatest_quantity }
     {
         match self
             .touches(unit)
@@ -321,7 +328,11 @@ impl Problem {
     #[inline]
     pub fn touches(&self, unit: u32) -> &[Touch]
         requires { unit < unit_count self.now }
+
+        // The touched rows, in order.
         ensures touches { result.now ≡ touches_of self.now unit }
+
+        // What holds of each, and how many there are.
         ensures rows { All (λ touch. touch.row < target_count self.now) result.now }
         ensures paired { length (touched_rows self.now unit) ≡ length result.now }
         ensures small { length result.now ≤ target_count self.now }
@@ -337,7 +348,7 @@ impl Problem {
         requires place { i < length (touched_rows self.now unit) }
         requires zone { zone < zone_count self.now }
         ensures gain { result ≡ gain_of self.now (slice_index (touched_rows self.now unit) i) unit zone }
-        ensures small { result ≤ 10 ^ 18 }
+        ensures small { result ≤ greatest_quantity }
     {
         let touch = self.touches(unit)[i as usize];
         self.gain_from(touch.row, touch.amount, zone)
@@ -359,7 +370,7 @@ impl Problem {
     pub fn penalty_term(&self, t: u32, held: u64) -> u64
         requires { t < target_count self.now }
         ensures term { result ≡ penalty_term_of self.now t held }
-        ensures small { result ≤ 10 ^ 18 }
+        ensures small { result ≤ greatest_quantity }
     {
         let target = self.target(t);
         let missing = target.level.saturating_sub(held);
@@ -383,7 +394,8 @@ impl Problem {
         ensures in_range { result < zone_count self.now }
     {
         let zones = self.zones.at(unit as usize);
-        let place = place_of(zones, zone);
+        let set = self.allowed(unit);
+        let place = place_of(set, zone);
         zones[turned(place + shift as usize, zones.len())]
     }
 
@@ -392,7 +404,7 @@ impl Problem {
         ensures edges { result.now ≡ self.now.edges }
         ensures pairs { All (IsPair (unit_count self.now)) result.now }
         ensures lengths { All (λ edge. IsLength self.now edge.2) result.now }
-        ensures few { length result.now ≤ 1000000 }
+        ensures few { length result.now ≤ most_boundary_rows }
         ensures valid { IsValid self.now }
     {
         self.parts.edges.as_slice()
@@ -415,7 +427,7 @@ impl Problem {
     pub fn gain_from(&self, t: u32, amount: u64, zone: u8) -> u64
         requires row { t < target_count self.now }
         requires zone { zone < zone_count self.now }
-        requires fits { gain_from self.now t amount zone ≤ 10 ^ 18 }
+        requires fits { gain_from self.now t amount zone ≤ greatest_quantity }
         ensures { result ≡ gain_from self.now t amount zone }
     {
         let target = self.target(t);
@@ -429,12 +441,17 @@ impl Problem {
     /// zone to another, in ten-thousandths.
     #[inline]
     pub fn moved_total(&self, touch: Touch, held: u64, from: u8, to: u8) -> u64
+        // The row and the zones.
         requires row { touch.row < target_count self.now }
         requires from { from < zone_count self.now }
         requires to { to < zone_count self.now }
-        requires held { held ≤ 10 ^ 18 }
-        requires lost { gain_from self.now touch.row touch.amount from ≤ 10 ^ 18 }
-        requires gained { gain_from self.now touch.row touch.amount to ≤ 10 ^ 18 }
+
+        // The quantities, within their limit.
+        requires held { held ≤ greatest_quantity }
+        requires lost { gain_from self.now touch.row touch.amount from ≤ greatest_quantity }
+        requires gained { gain_from self.now touch.row touch.amount to ≤ greatest_quantity }
+
+        // The total after the move.
         ensures { result ≡ held_after self.now touch held from to }
     {
         let gained = self.gain_from(touch.row, touch.amount, to);
@@ -443,17 +460,13 @@ impl Problem {
     }
 }
 
-/// Where a zone stands in a list of zones, or the list's length.
+/// The place of a zone of the set among its zones in rising order: how many of them are lower.
 #[inline]
-fn place_of(zones: &[u8], zone: u8) -> usize
-    ensures { result ≡ position_or_len (λ k. k == zone) zones.now }
+fn place_of(set: u64, zone: u8) -> usize
+    requires { zone < most_zones }
+    ensures { result ≡ length (places_below zone (λ k. bit_at set k == 1)) }
 {
-    for (place, k) in zones.iter().enumerate() {
-        if *k == zone {
-            return place;
-        }
-    }
-    zones.len()
+    (set & ((1 << zone) - 1)).count_ones() as usize
 }
 
 /// The remainder of a place by a count, without a division where the place is below twice the count.

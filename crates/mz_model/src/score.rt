@@ -3,6 +3,7 @@ ghost use Rattle.std.specs.Prelude.{◌≡◌, ◌*◌, ◌<◌, ◌≤◌, ◌^
 ghost use Rattle.std.specs.List.{sum_by};
 ghost use Rattle.mz_model.specs.Parts.{unit_count, target_count};
 ghost use Rattle.mz_num.specs.Places.{sum_below};
+ghost use Rattle.mz_num.specs.Limits.{greatest_quantity, greatest_score};
 ghost use Rattle.mz_model.specs.Plans.{IsLegalPlan};
 ghost use Rattle.mz_model.specs.Scores.{cost_of_plan, outer_term, pair_term, penalty_of_plan, score_of_plan};
 ghost use Rattle.mz_model.specs.Targets.{held_of, is_met, shortfall_of};
@@ -25,7 +26,7 @@ pub struct Score {
 pub fn evaluate(problem: &Problem, plan: &Plan) -> Score
     requires { IsLegalPlan problem.now plan.now }
     ensures score { result ≡ score_of_plan problem.now plan.now }
-    ensures small { result.total ≤ 10 ^ 25 }
+    ensures small { result.total ≤ greatest_score }
 {
     let cost = cost(problem, plan);
     let boundary = pairs_boundary(problem, plan) + outer_boundary(problem, plan);
@@ -95,7 +96,7 @@ pub fn held(problem: &Problem, plan: &Plan, t: u32) -> u64
     requires legal { IsLegalPlan problem.now plan.now }
     requires row { t < target_count problem.now }
     ensures held { result ≡ held_of problem.now plan.now t }
-    ensures small { result ≤ 10 ^ 18 }
+    ensures small { result ≤ greatest_quantity }
 {
     let mut held = 0;
     let holders = problem.holders(problem.target(t).feature);

@@ -6,6 +6,10 @@ use Rattle.std.specs.Prelude.{ℕ, ◌^◌}
 abbrev pub greatest_quantity : ℕ
 greatest_quantity = 10 ^ 18
 
+-- the greatest score of a plan, and the greatest change of one: in ten-thousandths
+abbrev pub greatest_score : ℕ
+greatest_score = 10 ^ 25
+
 -- the greatest id of a unit, zone, feature or cost
 abbrev pub greatest_id : ℕ
 greatest_id = 2147483647

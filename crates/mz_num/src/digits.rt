@@ -4,8 +4,8 @@ ghost use Rattle.std.specs.Str.{all_ascii_digits};
 ghost use Rattle.std.specs.Str.Parse.{digits_value_after};
 ghost use Rattle.mz_num.specs.Digits.{digits_number};
 
-/// The number that one to `most` digits write; none for any other text.
-pub(crate) fn read_digits(most: usize, text: &[u8]) -> Option<u128>
+/// The number that one to `most` decimal digits write; none for any other text. Leading zeros are digits too.
+pub fn read_digits(most: usize, text: &[u8]) -> Option<u128>
     requires { most ≤ 38 }
     ensures number { result ≡ digits_number most text.now }
     ensures small { IfSome result (λ n. n < 10 ^ most) }

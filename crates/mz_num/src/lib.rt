@@ -18,6 +18,7 @@ mod text;
 mod write;
 
 pub use blank::trim;
+pub use digits::read_digits;
 pub use fault::NumFault;
 pub use filled::Filled;
 pub use memory::NoMemory;

@@ -3,6 +3,7 @@
 ghost use Rattle.std.specs.Prelude.{◌≡◌, ◌≤◌, ◌^◌, ◌≤ℤ◌, pos, negsuc, IfOk};
 ghost use Rattle.mz_num.specs.Blank.{trimmed};
 ghost use Rattle.mz_num.specs.NumberText.{ten4_of, mic6_of, whole_of, signed_of, scaled_in};
+ghost use Rattle.mz_num.specs.Limits.{greatest_quantity};
 
 use crate::blank::trim;
 use crate::digits::read_digits;
@@ -80,7 +81,7 @@ pub fn read_signed(text: &[u8]) -> Result<i64, NumFault>
 fn read_scaled(text: &[u8], scale: u32) -> Result<u64, NumFault>
     requires { scale ≤ 6 }
     ensures value { result ≡ scaled_in scale (trimmed text.now) }
-    ensures within { IfOk result (λ n. n ≤ 10 ^ 18) }
+    ensures within { IfOk result (λ n. n ≤ greatest_quantity) }
 {
     let text = trim(text);
     if text.is_empty() {

@@ -2,6 +2,7 @@
 ghost use Rattle.std.specs.Prelude.{◌≡◌, ◌+◌, ◌*◌, ◌^◌, ◌<◌, ◌≤◌};
 ghost use Rattle.mz_num.specs.Round.{round};
 ghost use Rattle.mz_num.specs.NumberText.{at_most, scaled_value};
+ghost use Rattle.mz_num.specs.Limits.{greatest_quantity};
 
 use crate::fault::NumFault;
 use crate::number::Number;
@@ -16,7 +17,7 @@ pub(crate) fn scaled(number: Number, scale: u32) -> Result<u64, NumFault>
     requires mantissa { number.mantissa < 10 ^ 38 }
     requires raised { number.raised < 10 ^ 4 }
     requires scale { scale ≤ 6 }
-    ensures { result ≡ at_most (10 ^ 18) (scaled_value scale number) }
+    ensures { result ≡ at_most greatest_quantity (scaled_value scale number) }
 {
     if number.mantissa == 0 {
         return Ok(0);
@@ -32,7 +33,7 @@ pub(crate) fn scaled(number: Number, scale: u32) -> Result<u64, NumFault>
 /// A whole number times a power of ten.
 fn raised_by(number: u128, places: u32) -> Result<u64, NumFault>
     requires { 1 ≤ number }
-    ensures { result ≡ at_most (10 ^ 18) (number * 10 ^ places) }
+    ensures { result ≡ at_most greatest_quantity (number * 10 ^ places) }
 {
     if places > 18 || number > GREATEST {
         return Err(NumFault::TooLarge);
@@ -44,7 +45,7 @@ fn raised_by(number: u128, places: u32) -> Result<u64, NumFault>
 #[tactic(auto, unfolding(crate::specs::Round::round))]
 fn lowered_by(number: u128, places: u32) -> Result<u64, NumFault>
     requires { number < 10 ^ 38 }
-    ensures { result ≡ at_most (10 ^ 18) (round number (10 ^ places)) }
+    ensures { result ≡ at_most greatest_quantity (round number (10 ^ places)) }
 {
     if places > 38 {
         return Ok(0);
@@ -54,7 +55,7 @@ fn lowered_by(number: u128, places: u32) -> Result<u64, NumFault>
 }
 
 fn narrowed(value: u128) -> Result<u64, NumFault>
-    ensures { result ≡ at_most (10 ^ 18) value }
+    ensures { result ≡ at_most greatest_quantity value }
 {
     if value > GREATEST {
         return Err(NumFault::TooLarge);

@@ -6,13 +6,14 @@ use std::marker::Model;
 pub struct Ten4(pub u64);
 
 impl Model for Ten4 {
-    ghost use Rattle.std.specs.Prelude.{ℕ, ◌≤◌, ◌^◌};
+    ghost use Rattle.std.specs.Prelude.{ℕ, ◌≤◌};
+    ghost use Rattle.mz_num.specs.Limits.{greatest_quantity};
 
     ghost Value = { ℕ };
 
     ghost view = { λ t. t.0 };
 
-    ghost invariant = { λ t. t.0 ≤ 10 ^ 18 };
+    ghost invariant = { λ t. t.0 ≤ greatest_quantity };
 
     ghost inverse = { λ n. record { 0 = n } };
 }
@@ -22,13 +23,14 @@ impl Model for Ten4 {
 pub struct Mic6(pub u64);
 
 impl Model for Mic6 {
-    ghost use Rattle.std.specs.Prelude.{ℕ, ◌≤◌, ◌^◌};
+    ghost use Rattle.std.specs.Prelude.{ℕ, ◌≤◌};
+    ghost use Rattle.mz_num.specs.Limits.{greatest_quantity};
 
     ghost Value = { ℕ };
 
     ghost view = { λ m. m.0 };
 
-    ghost invariant = { λ m. m.0 ≤ 10 ^ 18 };
+    ghost invariant = { λ m. m.0 ≤ greatest_quantity };
 
     ghost inverse = { λ n. record { 0 = n } };
 }

@@ -1,4 +1,4 @@
-use crate::{Filled, Items, Text, push_bytes, push_number, round_half, trim};
+use crate::{Filled, Items, Text, push_bytes, push_number, read_digits, round_half, trim};
 use std::test::Fail;
 
 #[test]
@@ -12,6 +12,14 @@ fn a_half_is_rounded_up(rt: HostRuntime) {
 fn blanks_at_the_ends_are_trimmed(rt: HostRuntime) {
     assert!(rt; trim(b" \t a b\t ") == b"a b".as_slice());
     assert!(rt; trim(b" \t").is_empty());
+}
+
+#[test]
+fn digits_alone_are_a_number(rt: HostRuntime) {
+    assert!(rt; read_digits(10, b"0000000060") == Some(60));
+    assert!(rt; read_digits(10, b"00000000060").is_none());
+    assert!(rt; read_digits(10, b"+1").is_none());
+    assert!(rt; read_digits(10, b"").is_none());
 }
 
 #[test]

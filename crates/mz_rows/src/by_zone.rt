@@ -49,10 +49,15 @@ fn read_zone_number(
     zones: &Ids,
     things: &Ids,
 ) -> Result<(u8, u32, u64), RowFault>
+    // The row, and how many zones there are.
     requires row { row < length table.now }
     requires zones { length zones.now ≤ most_zones }
     requires wide { length (get_or table.now row []) ≡ 3 }
+
+    // The number with its places, or the fault.
     ensures answer { result ≡ zone_number_in zones.now things.now (line_of row) (get_or table.now row []) }
+
+    // What holds of them.
     ensures zone { IfOk result (λ row. row.0 < length zones.now) }
     ensures thing { IfOk result (λ row. row.1 < length things.now) }
     ensures small { IfOk result (λ row. row.2 ≤ greatest_quantity) }

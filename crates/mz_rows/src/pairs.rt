@@ -41,10 +41,13 @@ fn pair_key(row: &PairRow) -> u64
 
 /// The same of rows that stand in order of their pairs.
 fn add_runs(alloc: Global, rows: &[PairRow]) -> Result<Vec<PairSum>, NoMemory>
+    // The rows, within their limits and in order.
     requires few { length rows.now ≤ most_amount_rows }
     requires narrow { All (λ row. row.1 < 2 ^ 32) rows.now }
     requires small { All (λ row. row.2 ≤ greatest_quantity) rows.now }
     requires sorted { IsNonDecreasingBy pair_key rows.now }
+
+    // The sums, a pair each.
     ensures added { IfOk result (λ sums. AreAdded rows.now sums.items) }
     ensures fewer { IfOk result (λ sums. length sums.items ≤ length rows.now) }
 {

@@ -1,5 +1,6 @@
 -- Where a run stands, and the moves that can be made there.
 use Rattle.std.specs.Prelude.{◌≡◌, ◌<◌, ◌≤◌, ◌^◌, ℕ, ℤ, pos, ◌-ℤ◌, IsTrue, List, slice_index}
+use Rattle.mz_num.specs.Limits.{greatest_score}
 use Rattle.mz_model.specs.declared.parts.Parts.{Parts}
 use Rattle.mz_model.specs.declared.score.Score.{Score}
 use Rattle.mz_model.specs.Move.{moved_plan}
@@ -28,5 +29,5 @@ pub record IsMoveFrom (parts : Parts) (plan : List ℕ) (judged : Judged) : Type
 -- the change leads from a sum to another, which is at most 10^25
 pub record IsChange (sum : ℕ) (change : ℤ) : Type 0 where
   pub after : ℕ
-  pub small : after ≤ 10 ^ 25
+  pub small : after ≤ greatest_score
   pub is : change ≡ pos after -ℤ pos sum

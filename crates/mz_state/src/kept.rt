@@ -1,5 +1,6 @@
 //! The state of a run: a journal, and what follows from it.
 ghost use Rattle.std.specs.Prelude.{◌≡◌, ◌<◌, ◌≤◌, ◌==◌, ◌++◌, ◌∷◌, [], IfOk, length};
+ghost use Rattle.mz_num.specs.Limits.{most_runs, most_workers};
 ghost use Rattle.mz_model.specs.Parts.{unit_count};
 ghost use Rattle.mz_delta.specs.Reading.{IsWellFormed};
 ghost use Rattle.mz_delta.specs.Rooms.{FitsReading};
@@ -75,8 +76,8 @@ impl Kept {
         seats: u8,
     ) -> Result<Kept, NoMemory>
         requires rules { IsRules rules.now }
-        requires runs { run ≤ 1000 }
-        requires workers { seats ≤ 60 }
+        requires runs { run ≤ most_runs }
+        requires workers { seats ≤ most_workers }
         ensures { IfOk result (λ kept. kept ≡ record {
           setting = setting_with problem.now rules.now seed run;
           limit = rules.now.limit;
@@ -164,13 +165,18 @@ impl Kept {
     /// Decides the seat's next draw, as it was judged: the entry is appended, and where it is accepted its move
     /// is made. This costs the moved unit's target rows. No memory is taken.
     pub fn apply(&mut self, problem: &Problem, rules: &Rules, judged: &Judged) -> Receipt
+        // The state's own problem and rules.
         requires problem { problem.now ≡ self.old.setting.parts }
         requires schedule { rules.now.schedule ≡ self.old.setting.cooling }
         requires limit { rules.now.limit ≡ self.old.limit }
+
+        // Room for the entry, and the move of the seat's next draw.
         requires not_full { length self.old.journal < self.old.limit }
         requires seat { judged.now.seat < self.old.seats }
         requires unit { judged.now.unit < unit_count problem.now }
         requires next { IsNextMove self.old judged.now }
+
+        // The entry, and the state with it.
         ensures position { result.position ≡ length self.old.journal }
         ensures entry { result.entry ≡ entry_of_seat self.old.setting self.old.journal judged.now.seat }
         ensures kept { self.new ≡ record self.old { journal = self.old.journal ++ result.entry ∷ [] } }

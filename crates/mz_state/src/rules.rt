@@ -1,5 +1,6 @@
 //! What a run is decided by, as its parameters ask.
 ghost use Rattle.std.specs.Prelude.{◌≡◌, ◌≤◌, IfOk, None};
+ghost use Rattle.mz_num.specs.Limits.{most_runs};
 ghost use Rattle.mz_params.specs.ParamFile.{IsAccepted};
 ghost use Rattle.mz_history.specs.Cooling.{AreRulesOf};
 ghost use Rattle.mz_history.specs.Rules.{IsRules};
@@ -23,7 +24,7 @@ pub fn rules_of(
     run: u32,
 ) -> Result<Rules, NoMemory>
     requires accepted { IsAccepted params.now }
-    requires runs { run ≤ 1000 }
+    requires runs { run ≤ most_runs }
     ensures asked { IfOk result (λ rules. AreRulesOf problem.now params.now seed run rules) }
     ensures rules { IfOk result IsRules }
 {
@@ -42,7 +43,7 @@ fn fitted_rules(
     run: u32,
 ) -> Result<Rules, NoMemory>
     requires accepted { IsAccepted params.now }
-    requires runs { run ≤ 1000 }
+    requires runs { run ≤ most_runs }
     requires fitted { params.now.start ≡ None }
     ensures asked { IfOk result (λ rules. AreRulesOf problem.now params.now seed run rules) }
     ensures rules { IfOk result IsRules }

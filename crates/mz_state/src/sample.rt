@@ -2,6 +2,7 @@
 ghost use Rattle.std.specs.Prelude.{◌≡◌, ◌+◌, ◌*◌, ◌%◌, ◌≤◌, ◌^◌, ◌<◌, ℕ, IfOk, length, nat_lt, unsigned_abs};
 ghost use Rattle.std.specs.List.{All};
 ghost use Rattle.mz_num.specs.Places.{list_below};
+ghost use Rattle.mz_num.specs.Limits.{greatest_score, million, most_runs};
 ghost use Rattle.mz_model.specs.Plans.{IsLegalPlan};
 ghost use Rattle.mz_model.specs.Zones.{counts_of, free_units};
 ghost use Rattle.mz_draw.specs.Draws.{draw_at};
@@ -31,10 +32,10 @@ pub(crate) fn sampled_changes(
     seed: u64,
     run: u32,
 ) -> Result<Vec<i128>, NoMemory>
-    requires share { prop ≤ 1000000 }
-    requires runs { run ≤ 1000 }
+    requires share { prop ≤ million }
+    requires runs { run ≤ most_runs }
     ensures changes { IfOk result (λ changes. changes.items ≡ sampled_changes problem.now prop seed run) }
-    ensures sizes { IfOk result (λ changes. All (λ d. unsigned_abs d ≤ 10 ^ 25) changes.items) }
+    ensures sizes { IfOk result (λ changes. All (λ d. unsigned_abs d ≤ greatest_score) changes.items) }
 {
     if !has_free(problem) {
         return Ok(vec![in alloc; 0; SAMPLES]?);
@@ -59,13 +60,13 @@ fn changes_of(
     seed: u64,
     run: u32,
 ) -> Result<Vec<i128>, NoMemory>
-    requires runs { run ≤ 1000 }
+    requires runs { run ≤ most_runs }
     requires legal { IsLegalPlan problem.now plan.now }
     requires some_free { 0 < length (free_units problem.now) }
     ensures changes { IfOk result (λ changes. changes.items ≡ list_below 1000
         (λ k. change_by_draw problem.now plan.now
         (draw_at seed run 61 (free_units problem.now) (counts_of problem.now) k))) }
-    ensures sizes { IfOk result (λ changes. All (λ d. unsigned_abs d ≤ 10 ^ 25) changes.items) }
+    ensures sizes { IfOk result (λ changes. All (λ d. unsigned_abs d ≤ greatest_score) changes.items) }
 {
     let totals = totals_of(alloc, problem, plan)?;
     let mut reading = Reading::room(alloc, problem)?;
@@ -95,17 +96,26 @@ fn next_change(
     reading: &mut Reading,
     judged: &mut Judged,
 ) -> i128
+    // The plan with its own totals.
     requires legal { IsLegalPlan problem.now plan.now }
     requires totals { totals.now ≡ totals_of_plan problem.now plan.now }
+
+    // The drawer before one of the sample's draws.
     requires some_free { 0 < length (free_units problem.now) }
     requires whole { drawer.old.taken % 3 ≡ 0 }
     requires early { drawer.old.taken ≤ 3000 }
+
+    // Room for what is read and judged.
     requires reading { FitsReading problem.now reading.old }
     requires judged { FitsJudged problem.now judged.now }
+
+    // The change that the draw would make.
     ensures change { (k : ℕ) → drawer.old.taken ≡ 3 * k
         → result ≡ change_by_draw problem.now plan.now
         (draw_at drawer.old.seed drawer.old.run drawer.old.seat (free_units problem.now) (counts_of problem.now) k) }
-    ensures size { unsigned_abs result ≤ 10 ^ 25 }
+    ensures size { unsigned_abs result ≤ greatest_score }
+
+    // The drawer and the rooms after it.
     ensures taken { drawer.new ≡ record drawer.old { taken = drawer.old.taken + 3 } }
     ensures reading { FitsReading problem.now reading.new }
     ensures judged { FitsJudged problem.now judged.exit.now }

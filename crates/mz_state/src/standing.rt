@@ -35,9 +35,13 @@ impl Standing {
     /// A plan of which nothing was changed.
     pub(crate) fn of(alloc: Global, problem: &Problem, plan: Plan) -> Result<Standing, NoMemory>
         requires { IsLegalPlan problem.now plan }
+
+        // The plan with its totals and score.
         ensures plan { IfOk result (λ standing. standing.plan ≡ plan) }
         ensures position { IfOk result (λ standing.
             IsPosition problem.now standing.plan standing.totals.items standing.score) }
+
+        // Nothing was changed yet.
         ensures units { IfOk result (λ standing. standing.units.items ≡ replicate (unit_count problem.now) 0) }
         ensures rows { IfOk result (λ standing. standing.rows.items ≡ replicate (target_count problem.now) 0) }
         ensures last { IfOk result (λ standing. standing.last ≡ 0) }
@@ -71,14 +75,21 @@ impl Standing {
 
     /// Makes a judged move where it was accepted. So many entries reach up to this one.
     pub(crate) fn decide(&mut self, problem: &Problem, judged: &Judged, accepted: bool, count: u32)
+        // The position and the move.
         requires valid { IsValid problem.now }
         requires position { IsPosition problem.now self.old.plan self.old.totals.items self.old.score }
         requires moves { IsMoveFrom problem.now self.old.plan judged.now }
+
+        // The versions of all units and rows.
         requires units { length self.old.units.items ≡ unit_count problem.now }
         requires rows { length self.old.rows.items ≡ target_count problem.now }
+
+        // The position after the move, where it was accepted.
         ensures plan { self.new.plan ≡
             (if accepted then moved_plan self.old.plan judged.now.unit judged.now.new else self.old.plan) }
         ensures position { IsPosition problem.now self.new.plan self.new.totals.items self.new.score }
+
+        // The versions after it.
         ensures units { self.new.units.items ≡
             (if accepted then slice_set self.old.units.items judged.now.unit count else self.old.units.items) }
         ensures rows { self.new.rows.items ≡

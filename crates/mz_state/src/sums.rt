@@ -1,5 +1,6 @@
 //! Sums that change by a difference.
 ghost use Rattle.std.specs.Prelude.{◌≡◌, ◌≤◌, ◌^◌, ℕ, pos, ◌-ℤ◌};
+ghost use Rattle.mz_num.specs.Limits.{greatest_score};
 ghost use Rattle.mz_model.specs.Move.{moved_plan};
 ghost use Rattle.mz_model.specs.Scores.{score_of_plan};
 ghost use Rattle.mz_model.specs.Valid.{IsValid};
@@ -10,7 +11,7 @@ use mz_model::{Plan, Problem, Score};
 
 /// A sum after its change.
 fn changed(sum: u128, change: i128) -> u128
-    requires sum { sum ≤ 10 ^ 25 }
+    requires sum { sum ≤ greatest_score }
     requires change { IsChange sum change }
     ensures { (after : ℕ) → change ≡ pos after -ℤ pos sum → result ≡ after }
 {

@@ -14,7 +14,9 @@ pub record Knows (pass : PassState) (chair : ChairState Told RunSetting) : Type 
   pub reached : chair.post.reached ≡ pass.reached
 
 -- chairs of the store, none of which holds the turn, and among them one for each pass
-pub record AreGathered (store : BoardId RunSetting) (passes : List PassState) (chairs : List (ChairState Told RunSetting)) : Type 0
+pub record AreGathered (store : BoardId RunSetting) (passes : List PassState)
+    (chairs : List (ChairState Told RunSetting)) : Type 0
   where
     pub idle : All (λ (chair : ChairState Told RunSetting). (chair.lock ≡ store) × (chair.taken ≡ None)) chairs
-    pub each : (pass : PassState) → Contains passes pass → (chair : ChairState Told RunSetting) × Contains chairs chair × Knows pass chair
+    pub each : (pass : PassState) → Contains passes pass
+        → (chair : ChairState Told RunSetting) × Contains chairs chair × Knows pass chair

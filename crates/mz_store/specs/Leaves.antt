@@ -40,7 +40,8 @@ pub record Holds (journal : List Entry) (pass : PassState) : Type 0 where
 pub record Closes
     (s : StoreState) (passes : List PassState) (journal : List Entry) (plan totals : List ℕ) (score : Score)
     : Type 0 where
-  pub closed : IsClosed (record { setting = s.run.setting; limit = s.run.limit; seats = s.run.seats; journal = journal })
+  pub closed : IsClosed
+      (record { setting = s.run.setting; limit = s.run.limit; seats = s.run.seats; journal = journal })
       journal plan totals score
   pub holds : All (Holds journal) passes
   pub words : WordsFollow s.run.setting s.board.opening journal

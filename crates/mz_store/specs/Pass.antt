@@ -97,7 +97,8 @@ pub record AreFresh (store : BoardId RunSetting) (seats : ℕ) (passes : List Pa
 -- a pass's next draw
 abbrev pub draw_of : RunSetting → PassState → Draw
 draw_of run pass =
-    draw_at run.setting.seed run.setting.run pass.seat (free_units run.setting.parts) (counts_of run.setting.parts) pass.number
+    draw_at run.setting.seed run.setting.run pass.seat
+    (free_units run.setting.parts) (counts_of run.setting.parts) pass.number
 
 -- what a look gives: a well-formed reading of the unit, of the pass's seat, whose front is at least what the pass had
 -- seen; the front was loaded once, and after it each item of the unit

@@ -14,13 +14,15 @@ use Rattle.mz_store.specs.Words.{IsItem, word_of_item}
 -- the items that an entry changes: its unit, and those of the target rows that the unit touches
 abbrev pub changed_items : Parts → Entry → List Item
 changed_items parts entry = cond entry.accepted
-    (unit_item entry.unit ∷ map row_item (filter (λ row. changes parts entry (row_item row)) (touched_rows parts entry.unit)))
+    (unit_item entry.unit
+    ∷ map row_item (filter (λ row. changes parts entry (row_item row)) (touched_rows parts entry.unit)))
     []
 
 -- each of these with its value after the entry, which follows a history
 abbrev pub writes_of : Setting → List Entry → Entry → List (ℕ × ℕ)
 writes_of s history entry =
-    map (λ item. (word_of_item s.parts item, value_of_item s (history ++ entry ∷ []) item)) (changed_items s.parts entry)
+    map (λ item. (word_of_item s.parts item, value_of_item s (history ++ entry ∷ []) item))
+    (changed_items s.parts entry)
 
 abbrev pub told : Setting → List Entry → Entry → Told
 told s history entry = record { entry = entry; writes = writes_of s history entry }

@@ -48,13 +48,15 @@ row_writes parts unit from to (row ∷ rows) (total ∷ totals) =
 -- what a judged move writes
 abbrev pub move_writes : Parts → Judged → Bool → List (ℕ × ℕ)
 move_writes parts judged accepted = cond accepted
-    ((judged.unit, judged.new) ∷ row_writes parts judged.unit judged.old judged.new (touched_rows parts judged.unit) judged.totals.items)
+    ((judged.unit, judged.new)
+    ∷ row_writes parts judged.unit judged.old judged.new (touched_rows parts judged.unit) judged.totals.items)
     []
 
 -- a turn over a kept state: it is answered the verdict of the journal on the reading, which is right for it, and puts
 -- back the journal with the entries that the verdict adds
 pub record Decides {E : Type 0}
-    (run : RunSetting) (old new : ChairState E RunSetting) (list : List E) (k : KeptState) (reading : Reading) (turn : Turn)
+    (run : RunSetting) (old new : ChairState E RunSetting) (list : List E)
+    (k : KeptState) (reading : Reading) (turn : Turn)
     : Type 0 where
   pub kept : IsKept k
   pub right : IsRightFor k.setting k.journal reading

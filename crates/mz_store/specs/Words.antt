@@ -1,6 +1,7 @@
 -- The words that a store publishes: one for the zone of each unit, and behind these one for what is held for each
 -- target row.
 use Rattle.std.specs.Prelude.{◌<◌, ◌+◌, ◌^◌, ℕ, Bool, nat_le, nat_lt, if◌then◌else◌, List, ◌++◌}
+use Rattle.mz_num.specs.Limits.{greatest_quantity}
 use Rattle.mz_model.specs.declared.parts.Parts.{Parts}
 use Rattle.mz_model.specs.Items.{Item, row_item, unit_item}
 use Rattle.mz_model.specs.Parts.{target_count, unit_count}
@@ -21,7 +22,8 @@ IsItem parts (row_item row) = row < target_count parts
 
 -- a unit's word may be a zone that the unit may have, and a target row's word a total of at most 10^18
 abbrev pub may_have : Parts → ℕ → ℕ → Bool
-may_have parts word value = if nat_lt word (unit_count parts) then is_allowed parts word value else nat_le value (10 ^ 18)
+may_have parts word value =
+    if nat_lt word (unit_count parts) then is_allowed parts word value else nat_le value greatest_quantity
 
 -- the zones of the starting plan, and what it holds for each target row
 abbrev pub opening_words : Setting → List ℕ

@@ -1,5 +1,6 @@
 //! The store.
 ghost use Rattle.std.specs.Prelude.{◌≡◌, ◌≤◌, ◌<◌, ℕ, IfOk, length, vec_len};
+ghost use Rattle.mz_num.specs.Limits.{most_runs, most_workers};
 ghost use Rattle.mz_board.specs.Chair as lock;
 ghost use Rattle.mz_history.specs.Rules.{IsRules, setting_with};
 ghost use Rattle.mz_store.specs.Pass.{AreFresh};
@@ -68,9 +69,9 @@ impl<'p> Store<'p> {
         seats: u8,
     ) -> Result<(Store<'p>, Vec<Pass>), NoMemory>
         requires rules { IsRules rules.now }
-        requires runs { run ≤ 1000 }
+        requires runs { run ≤ most_runs }
         requires some { 1 ≤ seats }
-        requires workers { seats ≤ 60 }
+        requires workers { seats ≤ most_workers }
         ensures run { IfOk result (λ opened. opened.0.run ≡ record {
           setting = setting_with problem.now rules.now seed run;
           limit = rules.now.limit;
@@ -105,7 +106,7 @@ fn opening_words(
     run: u32,
 ) -> Result<Vec<u64>, NoMemory>
     requires rules { IsRules rules.now }
-    requires runs { run ≤ 1000 }
+    requires runs { run ≤ most_runs }
     ensures { IfOk result (λ words. words.items ≡ opening_words (setting_with problem.now rules.now seed run)) }
 {
     let plan = start(alloc, problem, rules.prop, seed, run)?;

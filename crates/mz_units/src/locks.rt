@@ -21,10 +21,15 @@ pub fn read_locks(
     zones: &Ids,
     allowed: &[u64],
 ) -> Result<Vec<u64>, RowFault>
+    // The zones, the sets and the table.
     requires zones { length zones.now ≤ most_zones }
     requires allowed { length allowed.now ≡ length units.now }
     requires wide { All (λ row. length row ≡ 2) table.now }
+
+    // The sets under the locks, or the first fault.
     ensures answer { Gives result (λ sets. sets.items) (locked_sets_of units.now zones.now allowed.now table.now) }
+
+    // What holds of the sets.
     ensures units { IfOk result (λ sets. length sets.items ≡ length units.now) }
     ensures narrowed { IfOk result (λ sets. (unit : ℕ) → unit < length units.now
         → IsNarrowed (length zones.now) (slice_index allowed.now unit) (slice_index sets.items unit)) }

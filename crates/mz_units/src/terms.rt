@@ -65,11 +65,16 @@ fn push_terms(
     unit: usize,
     zones: u8,
 ) -> Result<(), NoMemory>
+    // How many costs, and that they are there.
     requires few { costs ≤ most_costs }
     requires unit { unit * costs + costs ≤ length unit_costs.now }
     requires zones { zones * costs ≤ length mult.now }
+
+    // The quantities, within their limit.
     requires small_costs { All (λ cost. cost ≤ greatest_quantity) unit_costs.now }
     requires small_multipliers { All (λ multiplier. multiplier ≤ greatest_quantity) mult.now }
+
+    // The terms behind those before.
     ensures { OnOk result (terms.new.items ≡
         terms.old.items ++ list_below zones (cost_term costs unit_costs.now mult.now unit)) }
 {
@@ -81,11 +86,16 @@ fn push_terms(
 
 /// The term of a unit in a zone.
 fn term(unit_costs: &[u64], mult: &[u64], costs: usize, unit: usize, zone: usize) -> u128
+    // How many costs, and that they are there.
     requires few { costs ≤ most_costs }
     requires unit { unit * costs + costs ≤ length unit_costs.now }
     requires zone { zone * costs + costs ≤ length mult.now }
+
+    // The quantities, within their limit.
     requires small_costs { All (λ cost. cost ≤ greatest_quantity) unit_costs.now }
     requires small_multipliers { All (λ multiplier. multiplier ≤ greatest_quantity) mult.now }
+
+    // The term.
     ensures { result ≡ cost_term costs unit_costs.now mult.now unit zone }
 {
     let mut sum = 0;

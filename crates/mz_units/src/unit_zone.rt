@@ -14,10 +14,15 @@ pub(crate) fn read_unit_zone(
     units: &Ids,
     zones: &Ids,
 ) -> Result<(u32, u8), RowFault>
+    // The row, and how many zones there are.
     requires row { row < length table.now }
     requires zones { length zones.now ≤ most_zones }
     requires wide { length (get_or table.now row []) ≡ 2 }
+
+    // The places, or the fault.
     ensures answer { result ≡ unit_zone_in units.now zones.now (line_of row) (get_or table.now row []) }
+
+    // What holds of the places.
     ensures unit { IfOk result (λ row. row.0 < length units.now) }
     ensures zone { IfOk result (λ row. row.1 < length zones.now) }
 {

@@ -61,10 +61,15 @@ fn read_unit(
     row: u32,
     width: u16,
 ) -> Result<(u32, Items<u64>), RowFault>
+    // The row and its width.
     requires row { row < length table.now }
     requires narrow { width ≤ most_costs }
     requires wide { length (get_or table.now row []) ≡ width + 1 }
+
+    // The unit, or the fault.
     ensures answer { Answers result (unit_in (line_of row) (get_or table.now row [])) }
+
+    // What holds of the unit.
     ensures within { IfOk result (λ unit. unit.0 ≤ greatest_id) }
     ensures costs { IfOk result (λ unit. length unit.1 ≡ width) }
     ensures small { IfOk result (λ unit. All (λ cost. cost ≤ greatest_quantity) unit.1) }
@@ -76,10 +81,15 @@ fn read_unit(
 
 /// Reads the costs of a row.
 fn read_unit_costs(alloc: Global, table: &Table, row: u32, width: u16) -> Result<Vec<u64>, RowFault>
+    // The row and its width.
     requires row { row < length table.now }
     requires narrow { width ≤ most_costs }
     requires wide { length (get_or table.now row []) ≡ width + 1 }
+
+    // The costs, or the fault.
     ensures answer { Gives result (λ costs. costs.items) (costs_in (line_of row) 1 (drop 1 (get_or table.now row []))) }
+
+    // What holds of the costs.
     ensures costs { IfOk result (λ costs. length costs.items ≡ width) }
     ensures small { IfOk result (λ costs. All (λ cost. cost ≤ greatest_quantity) costs.items) }
 {

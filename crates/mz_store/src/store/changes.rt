@@ -13,12 +13,17 @@ impl<'p> Store<'p> {
     /// Stores the judged unit's new zone and the totals that its move changes, where the move was accepted. An entry
     /// that changes nothing stores nothing.
     pub(super) fn store_changes(&self, chair: &mut Chair<Held>, judged: &Judged, accepted: bool)
+        // The chair is one of this store's.
         requires store { chair.old.lock ≡ self.now.board }
+
+        // The judged move.
         requires unit { judged.now.unit < unit_count self.now.run.setting.parts }
         requires zones { (judged.now.old < zone_count self.now.run.setting.parts)
             × (judged.now.new < zone_count self.now.run.setting.parts) }
         requires totals { length judged.now.totals.items
             ≡ length (touched_rows self.now.run.setting.parts judged.now.unit) }
+
+        // What the chair owes before and after.
         requires owes { chair.old.post.owes ≡ move_writes self.now.run.setting.parts judged.now accepted }
         ensures { chair.new ≡ with_owes chair.old [] }
     {
@@ -31,12 +36,17 @@ impl<'p> Store<'p> {
 
     /// Stores the totals that the judged move changes.
     fn store_rows(&self, chair: &mut Chair<Held>, judged: &Judged)
+        // The chair is one of this store's.
         requires store { chair.old.lock ≡ self.now.board }
+
+        // The judged move.
         requires unit { judged.now.unit < unit_count self.now.run.setting.parts }
         requires zones { (judged.now.old < zone_count self.now.run.setting.parts)
             × (judged.now.new < zone_count self.now.run.setting.parts) }
         requires totals { length judged.now.totals.items
             ≡ length (touched_rows self.now.run.setting.parts judged.now.unit) }
+
+        // What the chair owes before and after.
         requires owes { chair.old.post.owes ≡ row_writes self.now.run.setting.parts judged.now.unit judged.now.old
             judged.now.new (touched_rows self.now.run.setting.parts judged.now.unit) judged.now.totals.items }
         ensures { chair.new ≡ with_owes chair.old [] }
@@ -48,13 +58,18 @@ impl<'p> Store<'p> {
 
     /// Stores the total of one of the target rows that the judged unit touches, where the move changes it.
     fn store_row(&self, chair: &mut Chair<Held>, judged: &Judged, i: u32)
+        // The chair is one of this store's.
         requires store { chair.old.lock ≡ self.now.board }
+
+        // The judged move, and the place of the row.
         requires unit { judged.now.unit < unit_count self.now.run.setting.parts }
         requires zones { (judged.now.old < zone_count self.now.run.setting.parts)
             × (judged.now.new < zone_count self.now.run.setting.parts) }
         requires totals { length judged.now.totals.items
             ≡ length (touched_rows self.now.run.setting.parts judged.now.unit) }
         requires place { i < length (touched_rows self.now.run.setting.parts judged.now.unit) }
+
+        // What the chair owes before and after.
         requires owes { chair.old.post.owes ≡ row_writes self.now.run.setting.parts judged.now.unit judged.now.old
             judged.now.new (drop i (touched_rows self.now.run.setting.parts judged.now.unit))
             (drop i judged.now.totals.items) }

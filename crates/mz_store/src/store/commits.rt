@@ -77,15 +77,20 @@ impl<'p> Store<'p> {
 
     /// The verdict on what was judged by the reading, where the chair has taken the state; it is put back.
     fn turn(&self, chair: &mut Chair<Held>, held: Held, reading: &Reading, judged: &Judged) -> Turn
+        // The chair has the turn, with the state.
         requires store { chair.old.lock ≡ self.now.board }
         requires setting { chair.old.lock.setting ≡ Some (run_of held.kept.value) }
         requires turn { HasTurn chair.old (told_all held.kept.value.setting held.kept.value.journal) }
+
+        // What was read and judged.
         requires reads { Reads writes chair.old.lock.opening chair.old.post
             (told_all held.kept.value.setting held.kept.value.journal) }
         requires loaded { IsLoaded self.now.run.setting.parts chair.old.number chair.old.post reading.now }
         requires seat { chair.old.number < self.now.run.seats }
         requires right { IsRight self.now.run.setting.parts reading.now (next_draw self.now.run.setting.parts
             self.now.run.setting.seed self.now.run.setting.run held.kept.value.journal chair.old.number) judged.now }
+
+        // The verdict, and what it leaves.
         ensures { Decides self.now.run chair.old chair.new
             (told_all held.kept.value.setting (held.kept.value.journal ++ added result.verdict))
             held.kept.value reading.now result }
@@ -103,17 +108,24 @@ impl<'p> Store<'p> {
 
     /// Appends the entry of the judged move, and stores what it changes.
     fn add_entry(&self, chair: &mut Chair<Held>, held: &mut Held, judged: &Judged) -> Receipt
+        // The chair has the turn, with the state.
         requires store { chair.old.lock ≡ self.now.board }
         requires setting { chair.old.lock.setting ≡ Some (run_of held.old.kept.value) }
         requires turn { HasTurn chair.old (told_all held.old.kept.value.setting held.old.kept.value.journal) }
         requires kept { IsKept held.old.kept.value }
+
+        // Room for the entry, and the move of the seat's next draw.
         requires not_full { length held.old.kept.value.journal < held.old.kept.value.limit }
         requires seat { (judged.now.seat ≡ chair.old.number) × (judged.now.seat < held.old.kept.value.seats) }
         requires unit { judged.now.unit < unit_count held.old.kept.value.setting.parts }
         requires next { IsNextMove held.old.kept.value judged.now }
+
+        // The entry.
         ensures position { result.position ≡ length held.old.kept.value.journal }
         ensures entry { result.entry ≡ entry_of_seat held.old.kept.value.setting held.old.kept.value.journal
             judged.now.seat }
+
+        // The state and the chair with it.
         ensures kept { held.new.kept.value ≡ record held.old.kept.value {
           journal = held.old.kept.value.journal ++ result.entry ∷ [];
         } }
@@ -128,15 +140,20 @@ impl<'p> Store<'p> {
 
     /// Puts the state back.
     fn end_turn(&self, chair: &mut Chair<Held>, held: Held, seat: u8, verdict: Verdict) -> Turn
+        // The chair has the turn, owes nothing, and has seen the state's journal.
         requires store { chair.old.lock ≡ self.now.board }
         requires setting { chair.old.lock.setting ≡ Some (run_of held.kept.value) }
         requires taken { (list : List Told) × (chair.old.taken ≡ Some list) }
         requires paid { chair.old.post.owes ≡ [] }
         requires seen { chair.old.seen ≡ told_all held.kept.value.setting held.kept.value.journal }
         requires seat { seat < held.kept.value.seats }
+
+        // What the turn came to.
         ensures verdict { result.verdict ≡ verdict }
         ensures length { result.length ≡ length held.kept.value.journal }
         ensures number { result.number ≡ turns_of seat (seats_of held.kept.value.journal) }
+
+        // The state is put back.
         ensures kept { IsKept held.kept.value }
         ensures chair { chair.new ≡ without_turn chair.old }
     {

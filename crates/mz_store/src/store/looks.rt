@@ -1,6 +1,7 @@
 //! Looks, which wait for no turn.
 ghost use Rattle.std.specs.Prelude.{◌≡◌, ◌+◌, ◌<◌, ◌≤◌, ◌^◌, ℕ, IsTrue, Some, None, length, map};
 ghost use Rattle.std.specs.List.{All, zip};
+ghost use Rattle.mz_num.specs.Limits.{greatest_quantity};
 ghost use Rattle.mz_board.specs.Chair.{with_front, with_item};
 ghost use Rattle.mz_model.specs.Boundary.{neighbours_of};
 ghost use Rattle.mz_model.specs.Parts.{target_count, unit_count};
@@ -42,11 +43,16 @@ impl<'p> Store<'p> {
 
     /// The published front.
     fn load_front(&self, chair: &mut Chair<Held>) -> u32
+        // The chair is one of this store's, without a turn.
         requires store { chair.old.lock ≡ self.now.board }
         requires idle { chair.old.taken ≡ None }
+
+        // The front.
         ensures least { (chair.old.post.reached ≤ result) × (length chair.old.seen ≤ result) }
         ensures most { result ≤ self.now.run.limit }
         ensures valid { IsStore self.now }
+
+        // The chair has loaded it.
         ensures now { chair.new ≡ with_front chair.old result }
     {
         self.board.load_front(chair) as u32
@@ -68,7 +74,7 @@ impl<'p> Store<'p> {
         requires store { chair.old.lock ≡ self.now.board }
         requires front { (front : ℕ) × (chair.old.post.front ≡ Some front) }
         requires row { row < target_count self.now.run.setting.parts }
-        ensures small { result ≤ 10 ^ 18 }
+        ensures small { result ≤ greatest_quantity }
         ensures now { chair.new ≡ with_item chair.old (unit_count self.now.run.setting.parts + row) result }
     {
         self.board.load_item(chair, self.problem.units() + row)
@@ -76,12 +82,18 @@ impl<'p> Store<'p> {
 
     /// The zones of a unit's neighbours.
     fn load_neighbours(&self, chair: &mut Chair<Held>, unit: u32, zones: &mut Filled<u8>)
+        // The chair is one of this store's, and has loaded a front.
         requires store { chair.old.lock ≡ self.now.board }
         requires front { (front : ℕ) × (chair.old.post.front ≡ Some front) }
+
+        // The unit, and room for what is read.
         requires unit { unit < unit_count self.now.run.setting.parts }
         requires fits { greatest_degree self.now.run.setting.parts ≤ zones.old.room }
+
+        // The zones, and the chair that has loaded them.
         ensures zones { AreZonesAround self.now.run.setting.parts unit zones.new.items }
-        ensures now { chair.new ≡ with_items chair.old (zip (places_around self.now.run.setting.parts unit) zones.new.items) }
+        ensures now { chair.new ≡ with_items chair.old (zip (places_around self.now.run.setting.parts unit)
+            zones.new.items) }
         ensures room { zones.old.room ≤ zones.new.room }
     {
         zones.clear();
@@ -93,13 +105,19 @@ impl<'p> Store<'p> {
 
     /// What is held for the target rows that a unit touches.
     fn load_totals(&self, chair: &mut Chair<Held>, unit: u32, totals: &mut Filled<u64>)
+        // The chair is one of this store's, and has loaded a front.
         requires store { chair.old.lock ≡ self.now.board }
         requires front { (front : ℕ) × (chair.old.post.front ≡ Some front) }
+
+        // The unit, and room for what is read.
         requires unit { unit < unit_count self.now.run.setting.parts }
         requires fits { greatest_touched self.now.run.setting.parts ≤ totals.old.room }
+
+        // The totals, and the chair that has loaded them.
         ensures count { length totals.new.items ≡ length (touched_rows self.now.run.setting.parts unit) }
-        ensures small { All (λ total. total ≤ 10 ^ 18) totals.new.items }
-        ensures now { chair.new ≡ with_items chair.old (zip (rows_of self.now.run.setting.parts unit) totals.new.items) }
+        ensures small { All (λ total. total ≤ greatest_quantity) totals.new.items }
+        ensures now { chair.new ≡ with_items chair.old (zip (rows_of self.now.run.setting.parts unit)
+            totals.new.items) }
         ensures room { totals.old.room ≤ totals.new.room }
     {
         totals.clear();
