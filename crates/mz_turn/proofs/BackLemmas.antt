@@ -1,7 +1,7 @@
 -- The holder counts its entry and gives the turn back.
-use Rattle.std.proofs.Common.{◌≡◌, ◌≢◌, ℕ, suc, ◌+◌, ◌<◌, ◌^◌, ◌%◌, List, [], ◌∷◌, ◌++◌, length, get_or, set, sym, refl, ap, ◌∙◌, subst, inl, arith, append_assoc, length-append, true, Option, Some, None}
+use Rattle.std.proofs.Common.{◌≡◌, ◌≢◌, ℕ, suc, ◌+◌, ◌<◌, ◌^◌, ◌%◌, List, [], ◌∷◌, ◌++◌, length, get_or, set, sym, refl, ap, ◌∙◌, subst, inl, arith, length-append, true, Option, Some, None}
 use Rattle.std.specs.List.{All}
-use Rattle.std.proofs.lemmas.List.Elements.{All-nil, All-cons, All-push, All-weaker}
+use Rattle.std.proofs.lemmas.List.Elements.{All-nil, All-cons, All-weaker}
 use mathlib.Core.Option.{some}
 use lib.ListN.{get_elem?}
 use Rattle.atomic_table.specs.Table.{Me, Step, keeps, gives, Allows}
@@ -12,7 +12,7 @@ use Rattle.mz_turn.specs.Invariant.{Keeps, Fits}
 use Rattle.mz_turn.specs.Steps.{appended, released}
 use Rattle.mz_turn.specs.Turn.{MayAppend}
 use Rattle.mz_turn.proofs.TurnLemmas.{IsSettled}
-use Rattle.mz_turn.proofs.SeenLemmas.{begins_self, begins_more, grew_self, grew_push}
+use Rattle.mz_turn.proofs.SeenLemmas.{begins_self, begins_more, grew_self, grew_push, added_push}
 use Rattle.mz_turn.proofs.ViewLemmas.{each_set, once_set, has_set, set_in}
 use Rattle.mz_turn.proofs.FitLemmas.{St, Rule, all_keeps, only_kept, one_keeps, one_holder, fits_idle}
 
@@ -39,7 +39,7 @@ module _ {T E S : Type 0} (entries : T → List E) (owner : E → ℕ) (setting_
   R = Rule entries owner setting_of start setting seats
 
   abbrev Fit : ℕ → List E → View E S → Type 0
-  Fit = Fits owner setting seats
+  Fit = Fits owner start setting seats
 
   abbrev Kept : List E → ℕ × List E → Type 0
   Kept list k = (k.0 < seats) × GrewByOthers owner k.0 k.1 list
@@ -74,12 +74,11 @@ module _ {T E S : Type 0} (entries : T → List E) (owner : E → ℕ) (setting_
         word = r.word;
         list = r.list ++ e ∷ [];
         words = ap (λ ws. set ws 1 ((get_or s.words 1 0 + 1) % 2 ^ 64)) r.words ∙ ap (λ n. r.word ∷ n ∷ []) count;
-        added = r.added ++ e ∷ [];
-        grew = sym (append_assoc start r.added (e ∷ [])) ∙ ap (λ l. l ++ e ∷ []) r.grew;
-        owners = All-push (λ entry. owner entry < seats) r.added e r.owners (omega arith);
+        added = added_push owner seats start r.list e r.added (omega arith);
         fits = each_set (Fit r.word (r.list ++ e ∷ [])) s.views id w (fits_appended r.word r.list e v f hold.word_is below) (λ j u at ne. fits_others r.word r.list e u (r.fits j u at)
             (λ h. ne (r.once v.number j id u v at me (subst (λ n. Keeps n u.kept) mine h) (one_keeps entries owner setting_of start setting seats v one)))
             (λ t held. ne (one_holder entries owner setting_of start setting seats s r j id u v t taken at me held takes)));
+        whole = (id, (w, set_in s.views id v w me, refl));
         once = λ n. once_set (λ (u : View E S). Keeps n u.kept) s.views id v w me (λ k. subst (Keeps n) (sym one) k) (r.once n);
         every = λ n l. has_set (λ (u : View E S). Keeps n u.kept) s.views id v w me (λ k. subst (Keeps n) one k) (r.every n l);
         free = λ z. absurd (omega (arith, hold.word_is));
@@ -109,10 +108,9 @@ module _ {T E S : Type 0} (entries : T → List E) (owner : E → ℕ) (setting_
         list = r.list;
         words = ap (λ ws. set ws 0 0) r.words;
         added = r.added;
-        grew = r.grew;
-        owners = r.owners;
         fits = each_set (Fit 0 r.list) s.views id w (record { seen = f.seen; kept = f.kept; told = f.told; knows = f.knows; holds = λ t e. absurd (cc) })
             (λ j u at ne. fits_idle entries owner setting_of start setting seats r.word 0 r.list u (r.fits j u at) (λ t held. ne (one_holder entries owner setting_of start setting seats s r j id u v t taken at me held takes)));
+        whole = has_set (λ (u : View E S). u.seen ≡ r.list) s.views id v w me (λ whole. whole) r.whole;
         once = λ n. once_set (λ (u : View E S). Keeps n u.kept) s.views id v w me (λ k. k) (r.once n);
         every = λ n l. has_set (λ (u : View E S). Keeps n u.kept) s.views id v w me (λ k. k) (r.every n l);
         free = λ _. record { value = value; home = ap (λ hs. set hs 0 (some (Some value))) out; list_is = is ∙ hold.whole; setting_is = knows };

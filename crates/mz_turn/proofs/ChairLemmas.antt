@@ -5,7 +5,7 @@ use Rattle.std.proofs.lemmas.List.Elements.{All-head}
 use Rattle.atomic_table.specs.Seated.{TableId}
 use Rattle.atomic_table.specs.Table.{Me, rest}
 use Rattle.mz_turn.specs.declared.view.View.{View}
-use Rattle.mz_turn.specs.Seen.{GrewByOthers}
+use Rattle.mz_turn.specs.Seen.{GrewByOthers, GrewByChairs}
 use Rattle.mz_turn.specs.Views.{own_of, taken_view}
 use Rattle.mz_turn.specs.Invariant.{IsChairView}
 use Rattle.mz_turn.specs.Places.{IsChair, HasTaken, chair_of}
@@ -40,6 +40,10 @@ module _ {T E S : Type 0} (entries : T → List E) (owner : E → ℕ) (setting_
 
     pub takes : (table : TableId) → Takes entries owner setting_of (chair_of table m.0) x × (chair_of table m₃.0 ≡ with_turn (chair_of table m.0) (entries x))
     takes table = (
-      record { setting_is = won.setting_is ∙ ap (λ y. Some (setting_of y)) value_is; learns = learns table m.0 (entries x) ok.view (subst (λ y. Teaches owner m.0 (entries y)) value_is won.teaches) },
+      record {
+        setting_is = won.setting_is ∙ ap (λ y. Some (setting_of y)) value_is;
+        learns = learns table m.0 (entries x) ok.view (subst (λ y. Teaches owner m.0 (entries y)) value_is won.teaches);
+        added = subst (λ y. GrewByChairs owner m.0.seats m.0.opening (entries y)) value_is won.added;
+      },
       ap (chair_of table) view_is,
     )

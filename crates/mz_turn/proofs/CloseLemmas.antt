@@ -1,6 +1,7 @@
 -- All chairs come together in one view, and the value comes out.
-use Rattle.std.proofs.Common.{◌≡◌, ℕ, ◌<◌, List, [], ◌∷◌, ◌++◌, length, sym, refl, ap, ◌∙◌, subst, inl, arith, Option, Some, None}
+use Rattle.std.proofs.Common.{◌≡◌, ℕ, ◌<◌, List, [], ◌∷◌, ◌++◌, length, map, sym, refl, ap, ◌∙◌, subst, inl, arith, Option, Some, None}
 use Rattle.std.specs.List.{All}
+use Rattle.std.proofs.lemmas.List.{map-append}
 use Rattle.std.proofs.lemmas.List.Elements.{All-nil, All-head, All-cons, All-tail, All-push, All-contains, All-weaker}
 use mathlib.Core.Logic.{dite}
 use mathlib.Core.Option.{some, some-injective}
@@ -9,7 +10,7 @@ use lib.ListN.{get_elem?}
 use Rattle.atomic_table.specs.Seated.{TableId}
 use Rattle.atomic_table.specs.Table.{Me, Final, Seen}
 use Rattle.mz_turn.specs.declared.view.View.{View}
-use Rattle.mz_turn.specs.Seen.{Begins, GrewByOthers}
+use Rattle.mz_turn.specs.Seen.{Begins, GrewByOthers, GrewByChairs}
 use Rattle.mz_turn.specs.Views.{joined_view}
 use Rattle.mz_turn.specs.Invariant.{Keeps, IsChairView}
 use Rattle.mz_turn.specs.Places.{IsChair, chair_of}
@@ -30,6 +31,10 @@ module _ {X : Type 0} (P : X → Type 0) where
 
   pub popped : (all rest : List X) (c : X) → all ≡ rest ++ c ∷ [] → All P all → All P rest × P c
   popped all rest c more h = let t = subst (All P) more h in (all_left rest (c ∷ []) t, All-head P c [] (all_right rest (c ∷ []) t))
+
+-- the last holder is taken off
+pub last_held : {X Y : Type 0} (f : X → Y) (all rest : List X) (x : X) → all ≡ rest ++ x ∷ [] → map f all ≡ map f rest ++ f x ∷ []
+last_held f all rest x e = ap (map f) e ∙ map-append f rest (x ∷ [])
 
 pub none_left : {X : Type 0} (n : ℕ) (xs : List X) → n ≡ length xs → n ≡ 0 → xs ≡ []
 none_left n [] e z = refl
@@ -81,7 +86,7 @@ module _ {T E S : Type 0} (entries : T → List E) (owner : E → ℕ) (setting_
   gathers_more table chairs all rest c number size me me' m ok is more gb after = subst (GathersBut owner chairs rest) (sym after)
       (gathers_one table chairs rest me m.0 ok.view (subst (λ l. GathersBut owner chairs l me) (more ∙ ap (λ x. rest ++ x ∷ []) (sym is)) gb))
 
-  pub gathered : (lock : LockId S) (chairs rest : List (ChairState E S)) (me : M) → AreAllOf lock chairs → rest ≡ [] → GathersBut owner chairs rest me → Gathers owner lock.seats chairs me.0
+  pub gathered : (lock : LockId E S) (chairs rest : List (ChairState E S)) (me : M) → AreAllOf lock chairs → rest ≡ [] → GathersBut owner chairs rest me → Gathers owner lock.seats chairs me.0
   gathered lock chairs rest me all none gb = record {
     idle = gb.idle;
     keeps = λ n lt. let h = all.every n lt in let P : ChairState E S → Type 0 = λ chair. Keeps chair.number me.0.kept in
@@ -105,6 +110,7 @@ module _ {T E S : Type 0} (entries : T → List E) (owner : E → ℕ) (setting_
       pub home : get_elem? xs 0 ≡ some (Some value)
       pub setting_is : setting_of value ≡ setting
       pub teaches : Teaches owner v (entries value)
+      pub added : GrewByChairs owner seats start (entries value)
 
     pub closes : (id : ℕ) (v : View E S) (ws : List ℕ) (xs : List (Option T)) → v.taken ≡ None → ((n : ℕ) → n < seats → Keeps n v.kept) → Final (Seen R id v) ws xs → Comes v xs
     closes id v ws xs idle all fin = let s = fin.0 in let r = fin.1.0 in let me = fin.1.1 in let f = r.fits id v me in let home = r.free (free_word s r id v me idle all) in
@@ -113,6 +119,7 @@ module _ {T E S : Type 0} (entries : T → List E) (owner : E → ℕ) (setting_
           home = fin.4 0 (Some home.value) (ap (λ hs. get_elem? hs 0) home.home);
           setting_is = home.setting_is;
           teaches = subst (Teaches owner v) (sym home.list_is) teaches;
+          added = subst (GrewByChairs owner seats start) (sym home.list_is) r.added;
         }
 
     module _ (v : View E S) (xs : List (Option T)) (comes : Comes v xs) (o : Option T) (at : get_elem? xs 0 ≡ some o) where
@@ -128,3 +135,6 @@ module _ {T E S : Type 0} (entries : T → List E) (owner : E → ℕ) (setting_
 
         pub out_teaches : Teaches owner v (entries x)
         out_teaches = subst (λ y. Teaches owner v (entries y)) value_is comes.teaches
+
+        pub out_added : GrewByChairs owner seats start (entries x)
+        out_added = subst (λ y. GrewByChairs owner seats start (entries y)) value_is comes.added

@@ -16,7 +16,7 @@ module _ {T E S : Type 0} (entries : T → List E) (owner : E → ℕ) (setting_
   abbrev Kept : List E → ℕ × List E → Type 0
   Kept list k = (k.0 < seats) × GrewByOthers owner k.0 k.1 list
 
-  fits_counted : (word : ℕ) (list : List E) (v : View E S) → IsChairView v → Fits owner setting seats word list v → Fits owner setting seats word list (counted_view v)
+  fits_counted : (word : ℕ) (list : List E) (v : View E S) → IsChairView v → Fits owner start setting seats word list v → Fits owner start setting seats word list (counted_view v)
   fits_counted word list v ok f = let own = only_kept entries owner setting_of start setting seats word list v f ok.kept in record {
     seen = f.seen;
     kept = All-cons (Kept list) (v.number, v.seen) [] (own.0, grew_later owner v.number (own_of v.kept) v.seen list own.1 f.seen ok.own) (All-nil (Kept list));
@@ -26,7 +26,7 @@ module _ {T E S : Type 0} (entries : T → List E) (owner : E → ℕ) (setting_
   }
 
   -- what was seen begins with all that the view knew
-  teaches_seen : (word : ℕ) (list : List E) (v : View E S) → IsChairView v → Fits owner setting seats word list v → Teaches owner v v.seen
+  teaches_seen : (word : ℕ) (list : List E) (v : View E S) → IsChairView v → Fits owner start setting seats word list v → Teaches owner v v.seen
   teaches_seen word list v ok f = let own = only_kept entries owner setting_of start setting seats word list v f ok.kept in let P : ℕ × List E → Type 0 = λ k. GrewByOthers owner k.0 k.1 v.seen in record {
     seen = begins_self v.seen;
     kept = subst (All P) (sym ok.kept) (All-cons P (v.number, own_of v.kept) [] (grew_so_far owner v.number (own_of v.kept) v.seen list own.1 f.seen ok.own) (All-nil P));
@@ -40,7 +40,7 @@ module _ {T E S : Type 0} (entries : T → List E) (owner : E → ℕ) (setting_
         counted_view m.0,
         keeps,
         tt,
-        view_step entries owner setting_of start setting seats s r (set s.words 1 found) id m.0 (counted_view m.0) me same (fits_counted r.word r.list m.0 ok f) (λ n k. subst (Keeps n) (sym ok.kept) k) (λ n k. subst (Keeps n) ok.kept k) (λ taken e. (taken, e)),
+        view_step entries owner setting_of start setting seats s r (set s.words 1 found) id m.0 (counted_view m.0) me same (fits_counted r.word r.list m.0 ok f) (λ n k. subst (Keeps n) (sym ok.kept) k) (λ n k. subst (Keeps n) ok.kept k) (λ taken e. (taken, e)) (λ e. e),
         (refl, omega arith, teaches_seen r.word r.list m.0 ok f, λ taken e. let h = f.holds taken e in (h.seen ∙ sym h.whole, is ∙ ap length (sym h.whole))),
       )
 

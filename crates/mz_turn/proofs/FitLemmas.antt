@@ -44,11 +44,11 @@ module _ {T E S : Type 0} (entries : T → List E) (owner : E → ℕ) (setting_
   abbrev pub At : St → ℕ → View E S → Type 0
   At s i v = get_elem? s.views i ≡ some v
 
-  pub keeps_below : (word : ℕ) (list : List E) (v : View E S) (n : ℕ) → Fits owner setting seats word list v → Keeps n v.kept → n < seats
+  pub keeps_below : (word : ℕ) (list : List E) (v : View E S) (n : ℕ) → Fits owner start setting seats word list v → Keeps n v.kept → n < seats
   keeps_below word list v n f h = keeps_all (λ m. m < seats) n v.kept (All-weaker (λ (k : ℕ × List E). (k.0 < seats) × GrewByOthers owner k.0 k.1 list) (λ (k : ℕ × List E). k.0 < seats) (λ k p. p.0) v.kept f.kept) h
 
   -- the one kept number, with the list under it
-  pub only_kept : (word : ℕ) (list : List E) (v : View E S) → Fits owner setting seats word list v → v.kept ≡ (v.number, own_of v.kept) ∷ [] → (v.number < seats) × GrewByOthers owner v.number (own_of v.kept) list
+  pub only_kept : (word : ℕ) (list : List E) (v : View E S) → Fits owner start setting seats word list v → v.kept ≡ (v.number, own_of v.kept) ∷ [] → (v.number < seats) × GrewByOthers owner v.number (own_of v.kept) list
   only_kept word list v f is = All-head (λ (k : ℕ × List E). (k.0 < seats) × GrewByOthers owner k.0 k.1 list) (v.number, own_of v.kept) [] (subst (All (λ (k : ℕ × List E). (k.0 < seats) × GrewByOthers owner k.0 k.1 list)) is f.kept)
 
   pub one_keeps : (v : View E S) → v.kept ≡ (v.number, own_of v.kept) ∷ [] → Keeps v.number v.kept
@@ -60,22 +60,21 @@ module _ {T E S : Type 0} (entries : T → List E) (owner : E → ℕ) (setting_
       r.once v.number i j v w ev ew hv.keeps (subst (λ n. Keeps n w.kept) same hw.keeps)
 
   -- a view with the same list, and no turn
-  pub fits_idle : (word word' : ℕ) (list : List E) (v : View E S) → Fits owner setting seats word list v → ((taken : List E) → v.taken ≡ Some taken → ⊥) → Fits owner setting seats word' list v
+  pub fits_idle : (word word' : ℕ) (list : List E) (v : View E S) → Fits owner start setting seats word list v → ((taken : List E) → v.taken ≡ Some taken → ⊥) → Fits owner start setting seats word' list v
   fits_idle word word' list v f idle = record { seen = f.seen; kept = f.kept; told = f.told; knows = f.knows; holds = λ taken e. absurd (idle taken e) }
 
   -- one view changes, and nothing else
-  pub view_step : (s : St) (r : Rule s) (words' : List ℕ) (id : ℕ) (v w : View E S) → At s id v → words' ≡ r.word ∷ length r.list ∷ [] → Fits owner setting seats r.word r.list w
-      → ((n : ℕ) → Keeps n w.kept → Keeps n v.kept) → ((n : ℕ) → Keeps n v.kept → Keeps n w.kept) → ((taken : List E) → v.taken ≡ Some taken → (t : List E) × (w.taken ≡ Some t))
+  pub view_step : (s : St) (r : Rule s) (words' : List ℕ) (id : ℕ) (v w : View E S) → At s id v → words' ≡ r.word ∷ length r.list ∷ [] → Fits owner start setting seats r.word r.list w
+      → ((n : ℕ) → Keeps n w.kept → Keeps n v.kept) → ((n : ℕ) → Keeps n v.kept → Keeps n w.kept) → ((taken : List E) → v.taken ≡ Some taken → (t : List E) × (w.taken ≡ Some t)) → (v.seen ≡ r.list → w.seen ≡ r.list)
       → Rule record { words = words'; homes = s.homes; views = set s.views id w }
-  view_step s r words' id v w me same fit back go turn = record {
+  view_step s r words' id v w me same fit back go turn seen = record {
     few = r.few;
     word = r.word;
     list = r.list;
     words = same;
     added = r.added;
-    grew = r.grew;
-    owners = r.owners;
-    fits = each_set (Fits owner setting seats r.word r.list) s.views id w fit (λ j u e ne. r.fits j u e);
+    fits = each_set (Fits owner start setting seats r.word r.list) s.views id w fit (λ j u e ne. r.fits j u e);
+    whole = has_set (λ (u : View E S). u.seen ≡ r.list) s.views id v w me seen r.whole;
     once = λ n. once_set (λ (u : View E S). Keeps n u.kept) s.views id v w me (back n) (r.once n);
     every = λ n l. has_set (λ (u : View E S). Keeps n u.kept) s.views id v w me (go n) (r.every n l);
     free = r.free;

@@ -12,7 +12,7 @@ use Rattle.mz_turn.specs.Invariant.{Keeps, Fits, IsChairView}
 use Rattle.mz_turn.specs.Places.{IsChair, HasTaken, IsNote, chair_of, note_of}
 use Rattle.mz_turn.specs.Chair.{joined}
 use Rattle.mz_turn.specs.Steps.{entered}
-use Rattle.mz_turn.proofs.SeenLemmas.{begins_nil, begins_longer, longer_whole, longer_left, longer_right}
+use Rattle.mz_turn.proofs.SeenLemmas.{begins_nil, begins_longer, longer_whole, longer_whole_right, longer_left, longer_right}
 use Rattle.mz_turn.proofs.ViewLemmas.{each_push, once_push, has_push, each_join, once_join, has_join, there}
 use Rattle.mz_turn.proofs.FitLemmas.{St, Rule, keeps_left, keeps_right, keeps_either}
 
@@ -21,7 +21,7 @@ module _ {T E S : Type 0} (entries : T → List E) (owner : E → ℕ) (setting_
   R = Rule entries owner setting_of start setting seats
 
   abbrev Fit : ℕ → List E → View E S → Type 0
-  Fit = Fits owner setting seats
+  Fit = Fits owner start setting seats
 
   abbrev Kept : List E → ℕ × List E → Type 0
   Kept list k = (k.0 < seats) × GrewByOthers owner k.0 k.1 list
@@ -34,9 +34,8 @@ module _ {T E S : Type 0} (entries : T → List E) (owner : E → ℕ) (setting_
     list = r.list;
     words = r.words;
     added = r.added;
-    grew = r.grew;
-    owners = r.owners;
     fits = each_push (Fit r.word r.list) s.views w fit r.fits;
+    whole = has_push (λ (u : View E S). u.seen ≡ r.list) s.views w r.whole;
     once = λ n. once_push (λ (u : View E S). Keeps n u.kept) s.views w (λ k. subst (Keeps n) none k) (r.once n);
     every = λ n l. has_push (λ (u : View E S). Keeps n u.kept) s.views w (r.every n l);
     free = r.free;
@@ -73,9 +72,9 @@ module _ {T E S : Type 0} (entries : T → List E) (owner : E → ℕ) (setting_
         list = r.list;
         words = r.words;
         added = r.added;
-        grew = r.grew;
-        owners = r.owners;
         fits = each_join (λ (u : View E S). Keeps 0 u.kept) s.views id v other w both spent_view me apart them (Fit r.word r.list) (fits_joined r.word r.list v w (r.fits id v me) (r.fits other w theirs)) (fits_spent r.word r.list) r.fits;
+        whole = has_join (λ (u : View E S). u.seen ≡ r.list) s.views id v other w both spent_view me apart them
+            (λ whole. longer_whole v.seen w.seen r.list whole (r.fits other w theirs).seen) (λ whole. longer_whole_right v.seen w.seen r.list whole (r.fits id v me).seen) r.whole;
         once = λ n. once_join (λ (u : View E S). Keeps n u.kept) s.views id v other w both spent_view me apart them (λ k. k) (keeps_either n v.kept w.kept) (r.once n);
         every = λ n l. has_join (λ (u : View E S). Keeps n u.kept) s.views id v other w both spent_view me apart them (keeps_left n v.kept w.kept) (keeps_right n v.kept w.kept) (r.every n l);
         free = r.free;

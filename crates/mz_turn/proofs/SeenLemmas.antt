@@ -4,7 +4,7 @@ use Rattle.std.specs.List.{All}
 use Rattle.std.proofs.lemmas.List.{append_cancel_left}
 use Rattle.std.proofs.lemmas.List.Elements.{All-nil, All-head, All-tail, All-cons, All-push}
 use borrow.Author.Tests.{ltb-true, ltb-false}
-use Rattle.mz_turn.specs.Seen.{Begins, GrewByOthers, longer}
+use Rattle.mz_turn.specs.Seen.{Begins, GrewByOthers, GrewByChairs, longer}
 
 module _ {E : Type 0} where
   pub begins_self : (xs : List E) → Begins xs xs
@@ -18,6 +18,10 @@ module _ {E : Type 0} where
 
   pub begins_length : (xs ys : List E) → Begins xs ys → length xs ≤ length ys
   begins_length xs ys b = omega (arith, ap length b.is, length-append xs b.rest)
+
+  no_more : (xs : List E) → length xs ≤ 0 → xs ≡ []
+  no_more [] le = refl
+  no_more (x ∷ xs) le = absurd (omega arith)
 
   front : (xs ys r s : List E) → xs ++ r ≡ ys ++ s → length xs ≤ length ys → Begins xs ys
   front [] ys r s e le = begins_nil ys
@@ -57,6 +61,18 @@ module _ {E : Type 0} where
   pub longer_whole : (xs ys list : List E) → xs ≡ list → Begins ys list → longer xs ys ≡ list
   longer_whole xs ys list is b = whole_case xs ys list is (begins_length ys list b) (ltb (length xs) (length ys)) refl
 
+  -- a beginning that is no shorter than the list is the list
+  begins_whole : (xs list : List E) → Begins xs list → length list ≤ length xs → xs ≡ list
+  begins_whole xs list b le = let none : b.rest ≡ [] = no_more b.rest (omega (arith, ap length b.is, length-append xs b.rest)) in sym (append-nil xs) ∙ (ap (λ l. xs ++ l) (sym none) ∙ b.is)
+
+  whole_right_case : (xs ys list : List E) → ys ≡ list → Begins xs list → (b : Bool) → ltb (length xs) (length ys) ≡ b → cond b ys xs ≡ list
+  whole_right_case xs ys list is b true e = is
+  whole_right_case xs ys list is b false e = let n : length ys ≤ length xs = ltb-false _ _ e in begins_whole xs list b (omega (arith, ap length is))
+
+  -- the same where the second list is the whole one
+  pub longer_whole_right : (xs ys list : List E) → ys ≡ list → Begins xs list → longer xs ys ≡ list
+  longer_whole_right xs ys list is b = whole_right_case xs ys list is b (ltb (length xs) (length ys)) refl
+
   left_case : (xs ys : List E) (b : Bool) → ltb (length xs) (length ys) ≡ b → length xs ≤ length (cond b ys xs)
   left_case xs ys true e = let n : length xs < length ys = ltb-true _ _ e in omega arith
   left_case xs ys false e = omega arith
@@ -94,3 +110,15 @@ module _ {E : Type 0} (owner : E → ℕ) (n : ℕ) where
   grew_so_far own seen list g b le = let c = begins_shorter own seen list (grew_begins own list g) b le in
       let e : g.rest ≡ c.rest ++ b.rest = append_cancel_left own g.rest (c.rest ++ b.rest) (g.is ∙ (sym b.is ∙ (ap (λ l. l ++ b.rest) (sym c.is) ∙ append_assoc own c.rest b.rest))) in
       record { rest = c.rest; is = c.is; others = all_before (λ e. owner e ≢ n) c.rest b.rest (subst (All (λ e. owner e ≢ n)) e g.others) }
+
+-- what was added is of chairs
+module _ {E : Type 0} (owner : E → ℕ) (seats : ℕ) where
+  pub added_none : (xs : List E) → GrewByChairs owner seats xs xs
+  added_none xs = record { rest = []; is = append-nil xs; chairs = All-nil (λ e. owner e < seats) }
+
+  pub added_push : (xs ys : List E) (e : E) → GrewByChairs owner seats xs ys → owner e < seats → GrewByChairs owner seats xs (ys ++ e ∷ [])
+  added_push xs ys e g below = record {
+    rest = g.rest ++ e ∷ [];
+    is = sym (append_assoc xs g.rest (e ∷ [])) ∙ ap (λ l. l ++ e ∷ []) g.is;
+    chairs = All-push (λ e. owner e < seats) g.rest e g.chairs below;
+  }

@@ -18,7 +18,7 @@ module _ {E S : Type 0} where
     other = other;
     word_is = ap (λ (c : ChairState E S). c.found) m.now;
     apart = subst (λ n. other ≢ n) (ap (λ (c : ChairState E S). c.number) w.now) m.apart;
-    within = subst (λ (l : LockId S). other < l.seats) (ap (λ (c : ChairState E S). c.lock) w.now) m.chair;
+    within = subst (λ (l : LockId E S). other < l.seats) (ap (λ (c : ChairState E S). c.lock) w.now) m.chair;
   }
 
   failed_with : (old chair new : ChairState E S) → new.tries ≡ chair.tries → new.found ≡ chair.found → FailedTries old chair → FailedTries old new
@@ -46,4 +46,4 @@ module _ {E S : Type 0} where
   pub takes_after : {T : Type 0} (entries : T → List E) (owner : E → ℕ) (setting : T → S) (old chair : ChairState E S) (value : T) → Waits old chair → Takes entries owner setting chair value → Takes entries owner setting old value
   takes_after entries owner setting old chair value w t =
       let u : Takes entries owner setting (record old { tries = chair.tries; found = chair.found }) value = subst (λ c. Takes entries owner setting c value) w.now t in
-      record { setting_is = u.setting_is; learns = record { seen = u.learns.seen; own = u.learns.own; told = u.learns.told } }
+      record { setting_is = u.setting_is; learns = record { seen = u.learns.seen; own = u.learns.own; told = u.learns.told }; added = u.added }

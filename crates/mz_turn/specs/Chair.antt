@@ -2,17 +2,18 @@
 use Rattle.std.specs.Prelude.{◌≡◌, ◌≢◌, ◌+◌, ◌<◌, ◌≤◌, ◌⊎◌, ℕ, List, [], ◌∷◌, ◌++◌, length, slice_get, Option, Some, None}
 use Rattle.std.specs.List.{All, Contains}
 use Rattle.atomic_table.specs.Seated.{TableId}
-use Rattle.mz_turn.specs.Seen.{Begins, GrewByOthers, longer}
+use Rattle.mz_turn.specs.Seen.{Begins, GrewByOthers, GrewByChairs, longer}
 
--- which lock it is, how many chairs it has, and the setting of its value
-pub record LockId (S : Type 0) : Type 0 where
+-- which lock it is, how many chairs it has, the setting of its value, and the value's list at the opening
+pub record LockId (E S : Type 0) : Type 0 where
   pub table : TableId
   pub seats : ℕ
   pub setting : Option S
+  pub opening : List E
 
 pub record ChairState (E S : Type 0) : Type 0 where
-  -- the lock that the chair is at, with its setting
-  pub lock : LockId S
+  -- the lock that the chair is at, with its setting and its list at the opening
+  pub lock : LockId E S
   pub number : ℕ
   -- the list that the chair has seen
   pub seen : List E
@@ -27,7 +28,7 @@ pub record ChairState (E S : Type 0) : Type 0 where
   pub found : ℕ
 
 pub record NoteState (E S : Type 0) : Type 0 where
-  pub lock : LockId S
+  pub lock : LockId E S
   pub seen : List E
 
 -- the list begins with what the chair has seen, and what was added is not the chair's; it begins with what
@@ -38,12 +39,12 @@ pub record Learns {E S : Type 0} (owner : E → ℕ) (chair : ChairState E S) (l
   pub told : All (λ brought. Begins brought list) chair.told
 
 -- a chair at the opening: it has seen the value's list, and holds nothing
-abbrev pub fresh_chair : {E S : Type 0} → LockId S → List E → ℕ → ChairState E S
-fresh_chair lock list number = record {
+abbrev pub fresh_chair : {E S : Type 0} → LockId E S → ℕ → ChairState E S
+fresh_chair lock number = record {
   lock = lock;
   number = number;
-  seen = list;
-  own = list;
+  seen = lock.opening;
+  own = lock.opening;
   told = [];
   taken = None;
   tries = 0;
@@ -51,20 +52,21 @@ fresh_chair lock list number = record {
 }
 
 -- so many chairs, numbered in order, as at the opening
-pub record AreFresh {E S : Type 0} (lock : LockId S) (list : List E) (seats : ℕ)
-    (chairs : List (ChairState E S)) : Type 0 where
+pub record AreFresh {E S : Type 0} (lock : LockId E S) (seats : ℕ) (chairs : List (ChairState E S)) : Type 0 where
   pub count : length chairs ≡ seats
-  pub each : (number : ℕ) → number < seats → slice_get chairs number ≡ Some (fresh_chair lock list number)
+  pub each : (number : ℕ) → number < seats → slice_get chairs number ≡ Some (fresh_chair lock number)
 
 -- after a take the chair has seen the whole list, under its number too
 abbrev pub with_turn : {E S : Type 0} → ChairState E S → List E → ChairState E S
 with_turn chair list = record chair { seen = list; own = list; told = []; taken = Some list }
 
--- what a take gives: the value has the chair's setting, and its list goes on from what the chair knew
+-- what a take gives: the value has the chair's setting, its list goes on from what the chair knew, and behind the list
+-- of the opening each entry is a chair's
 pub record Takes {T E S : Type 0} (entries : T → List E) (owner : E → ℕ) (setting : T → S) (chair : ChairState E S)
     (value : T) : Type 0 where
   pub setting_is : chair.lock.setting ≡ Some (setting value)
   pub learns : Learns owner chair (entries value)
+  pub added : GrewByChairs owner chair.lock.seats chair.lock.opening (entries value)
 
 -- the lock word is the number of another chair of the lock, and 1
 pub record FoundAnother {E S : Type 0} (chair : ChairState E S) (word : ℕ) : Type 0 where
@@ -112,7 +114,7 @@ abbrev pub joined : {E S : Type 0} → ChairState E S → NoteState E S → Chai
 joined chair note = record chair { seen = longer chair.seen note.seen; told = note.seen ∷ chair.seen ∷ chair.told }
 
 -- all chairs of the lock, none of which holds the turn
-pub record AreAllOf {E S : Type 0} (lock : LockId S) (chairs : List (ChairState E S)) : Type 0 where
+pub record AreAllOf {E S : Type 0} (lock : LockId E S) (chairs : List (ChairState E S)) : Type 0 where
   pub here : All (λ chair. (chair.lock ≡ lock) × (chair.taken ≡ None)) chairs
   pub every : (number : ℕ) → number < lock.seats → (chair : ChairState E S) × Contains chairs chair
       × (chair.number ≡ number)

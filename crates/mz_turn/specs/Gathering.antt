@@ -8,13 +8,14 @@ use Rattle.mz_turn.specs.Invariant.{Keeps}
 use Rattle.mz_turn.specs.Steps.{Teaches}
 
 -- the first view, once the numbers below n are dealt
-abbrev pub dealt_to : {E S : Type 0} → LockId S → List E → ℕ → View E S
-dealt_to lock list n = record {
+abbrev pub dealt_to : {E S : Type 0} → LockId E S → ℕ → View E S
+dealt_to lock n = record {
   number = 0;
   seats = lock.seats;
   setting = lock.setting;
-  seen = list;
-  kept = kept_from n (lock.seats - n) list;
+  opening = lock.opening;
+  seen = lock.opening;
+  kept = kept_from n (lock.seats - n) lock.opening;
   told = [];
   taken = None;
   tries = 0;

@@ -1,6 +1,6 @@
 -- The lock's invariant, which holds between any two steps. The words are the lock word and the count word,
 -- and one slot holds the value.
-use Rattle.std.specs.Prelude.{◌≡◌, ◌≢◌, ◌+◌, ◌<◌, ◌≤◌, ◌⊎◌, ℕ, List, [], ◌∷◌, ◌++◌, length, Option, Some}
+use Rattle.std.specs.Prelude.{◌≡◌, ◌≢◌, ◌+◌, ◌<◌, ◌≤◌, ◌⊎◌, ℕ, List, [], ◌∷◌, length, Option, Some}
 use Rattle.mz_num.specs.Limits.{most_workers}
 use Rattle.std.specs.List.{All}
 use mathlib.Core.Option.{some, none}
@@ -8,7 +8,7 @@ use mathlib.Core.Option as maybe
 use lib.ListN.{get_elem?}
 use Rattle.atomic_table.specs.Table.{State}
 use Rattle.mz_turn.specs.declared.view.View.{View}
-use Rattle.mz_turn.specs.Seen.{Begins, GrewByOthers}
+use Rattle.mz_turn.specs.Seen.{Begins, GrewByOthers, GrewByChairs}
 use Rattle.mz_turn.specs.Views.{own_of}
 
 -- the number is among those kept
@@ -23,13 +23,13 @@ pub record HoldsTurn {E S : Type 0} (word : ℕ) (list : List E) (v : View E S) 
   pub word_is : word ≡ v.number + 1
   pub keeps : Keeps v.number v.kept
 
-module _ {E S : Type 0} (owner : E → ℕ) (setting : S) (seats word : ℕ) (list : List E) where
+module _ {E S : Type 0} (owner : E → ℕ) (start : List E) (setting : S) (seats word : ℕ) (list : List E) where
   -- a view agrees with the one list, the longest that was seen
   pub record Fits (v : View E S) : Type 0 where
     pub seen : Begins v.seen list
     pub kept : All (λ (k : ℕ × List E). (k.0 < seats) × GrewByOthers owner k.0 k.1 list) v.kept
     pub told : All (λ brought. Begins brought list) v.told
-    pub knows : (s : S) → v.setting ≡ Some s → s ≡ setting
+    pub knows : (s : S) → v.setting ≡ Some s → (s ≡ setting) × (v.opening ≡ start)
     pub holds : (taken : List E) → v.taken ≡ Some taken → HoldsTurn word list v taken
 
 module _ {T E S : Type 0} (entries : T → List E) (owner : E → ℕ) (setting_of : T → S) where
@@ -47,10 +47,10 @@ module _ {T E S : Type 0} (entries : T → List E) (owner : E → ℕ) (setting_
     pub list : List E
     pub words : s.words ≡ word ∷ length list ∷ []
     -- what was added belongs to chairs
-    pub added : List E
-    pub grew : start ++ added ≡ list
-    pub owners : All (λ entry. owner entry < seats) added
-    pub fits : (i : ℕ) (v : View E S) → get_elem? s.views i ≡ some v → Fits owner setting seats word list v
+    pub added : GrewByChairs owner seats start list
+    pub fits : (i : ℕ) (v : View E S) → get_elem? s.views i ≡ some v → Fits owner start setting seats word list v
+    -- some view has seen the whole list
+    pub whole : (i : ℕ) × ((v : View E S) × (get_elem? s.views i ≡ some v) × (v.seen ≡ list))
     -- each chair's number is kept by exactly one view
     pub once : (n i j : ℕ) (v w : View E S) → get_elem? s.views i ≡ some v → get_elem? s.views j ≡ some w
         → Keeps n v.kept → Keeps n w.kept → i ≡ j

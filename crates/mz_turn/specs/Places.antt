@@ -7,13 +7,13 @@ use Rattle.mz_turn.specs.Views.{own_of}
 use Rattle.mz_turn.specs.Chair.{LockId, ChairState, NoteState}
 use Rattle.mz_turn.specs.Invariant.{IsChairView}
 
-abbrev pub lock_of : {S : Type 0} → TableId → ℕ → Option S → LockId S
-lock_of table seats setting = record { table = table; seats = seats; setting = setting }
+abbrev pub lock_of : {E S : Type 0} → TableId → ℕ → Option S → List E → LockId E S
+lock_of table seats setting opening = record { table = table; seats = seats; setting = setting; opening = opening }
 
 module _ {E S : Type 0} where
   abbrev pub chair_of : TableId → View E S → ChairState E S
   chair_of table v = record {
-    lock = lock_of table v.seats v.setting;
+    lock = lock_of table v.seats v.setting v.opening;
     number = v.number;
     seen = v.seen;
     own = own_of v.kept;
@@ -24,7 +24,7 @@ module _ {E S : Type 0} where
   }
 
   abbrev pub note_of : TableId → View E S → NoteState E S
-  note_of table v = record { lock = lock_of table v.seats v.setting; seen = v.seen }
+  note_of table v = record { lock = lock_of table v.seats v.setting v.opening; seen = v.seen }
 
 -- the slot is out with the chair that holds the turn, and empty until the value is put back
 pub record HasTaken {T E S : Type 0} (size : ℕ) (me : Me (Option T) (View E S)) (taken : List E) : Type 0 where

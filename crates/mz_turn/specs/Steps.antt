@@ -4,7 +4,7 @@ use Rattle.mz_num.specs.Limits.{most_workers}
 use Rattle.std.specs.List.{All}
 use Rattle.atomic_table.specs.Table.{Me, Step, rest}
 use Rattle.mz_turn.specs.declared.view.View.{View}
-use Rattle.mz_turn.specs.Seen.{Begins, GrewByOthers}
+use Rattle.mz_turn.specs.Seen.{Begins, GrewByOthers, GrewByChairs}
 use Rattle.mz_turn.specs.Views.{taken_view, missed_view, counted_view, appended_view, released_view, spent_view}
 
 -- the list goes on from what a view knew
@@ -27,6 +27,7 @@ module _ {T E S : Type 0} (entries : T → List E) (owner : E → ℕ) (setting 
     pub view : m'.0 ≡ taken_view m.0 (entries value)
     pub teaches : Teaches owner m.0 (entries value)
     pub setting_is : m.0.setting ≡ Some (setting value)
+    pub added : GrewByChairs owner m.0.seats m.0.opening (entries value)
 
   -- another chair has the turn
   pub record Missed (m : Sat) (found : ℕ) (m' : Sat) : Type 0 where

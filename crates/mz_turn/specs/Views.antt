@@ -31,6 +31,7 @@ module _ {E S : Type 0} where
     number = 0;
     seats = seats;
     setting = Some setting;
+    opening = list;
     seen = list;
     kept = kept_from 0 seats list;
     told = [];
@@ -44,6 +45,7 @@ module _ {E S : Type 0} where
     number = 0;
     seats = 0;
     setting = None;
+    opening = [];
     seen = [];
     kept = [];
     told = [];

@@ -4,6 +4,7 @@
 #![tactic(auto)]
 
 mod chair;
+mod holder;
 mod invariant;
 mod lock;
 mod note;
@@ -12,6 +13,7 @@ mod story;
 mod view;
 
 pub use chair::Chair;
+pub use holder::HoldsChair;
 pub use lock::TurnLock;
 pub use note::Note;
 pub use story::Story;

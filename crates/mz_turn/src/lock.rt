@@ -1,10 +1,12 @@
 //! The lock.
-ghost use Rattle.std.specs.Prelude.{◌≡◌, ◌<◌, ◌≤◌, ℕ, List, length, Some, IfOk};
+ghost use Rattle.std.specs.Prelude.{◌≡◌, ◌<◌, ◌≤◌, ℕ, List, length, map, Some, IfOk};
 ghost use Rattle.mz_num.specs.Limits.{most_workers};
 ghost use Rattle.std.specs.List.{All};
 ghost use Rattle.mz_turn.specs.Chair.{AreFresh, AreAllOf, Learns};
+ghost use Rattle.mz_turn.specs.Seen.{GrewByChairs};
 
 use crate::chair::Chair;
+use crate::holder::HoldsChair;
 use crate::invariant::{Opening, TurnTable};
 use crate::story::Story;
 use atomic_table::Table;
@@ -17,7 +19,8 @@ mod chairs;
 mod notes;
 mod turn;
 
-/// A value that chairs take in turn. Contracts see which lock it is, how many chairs it has, and its value's setting.
+/// A value that chairs take in turn. Contracts see which lock it is, how many chairs it has,
+/// its value's setting, and the value's list at the opening.
 #[derive(Drop)]
 pub struct TurnLock<T: Story + Drop> {
     table: TurnTable<T>,
@@ -27,12 +30,12 @@ impl<T: Story + Drop> Model for TurnLock<T> {
     ghost use Rattle.std.specs.Prelude.{◌≡◌, ◌≤◌, Some};
     ghost use Rattle.mz_turn.specs.Chair.{LockId};
 
-    ghost Value = { LockId T.Setting };
+    ghost Value = { LockId T.Entry T.Setting };
 
     ghost use Rattle.mz_turn.specs.Places.{lock_of};
 
     ghost view = { λ l. lock_of l.table.shared.table_id l.table.shared.key.seats
-        (Some (T.setting l.table.shared.key.value.value)) };
+        (Some (T.setting l.table.shared.key.value.value)) (T.entries l.table.shared.key.value.value) };
 
     ghost invariant = { λ l. (l.table.shared.table_id.words ≡ 2) × (l.table.shared.table_id.slots ≡ 1) };
 }
@@ -46,8 +49,9 @@ impl<T: Story + Send + Drop> TurnLock<T> {
     ) -> Result<(TurnLock<T>, Vec<Chair<T>>), NoMemory>
         requires some { 1 ≤ seats }
         requires few { seats ≤ most_workers }
-        ensures lock { IfOk result (λ opened. (opened.0.seats ≡ seats) × (opened.0.setting ≡ Some (T.setting value))) }
-        ensures chairs { IfOk result (λ opened. AreFresh opened.0 (T.entries value) seats opened.1.items) }
+        ensures lock { IfOk result (λ opened. (opened.0.seats ≡ seats) × (opened.0.setting ≡ Some (T.setting value))
+            × (opened.0.opening ≡ T.entries value)) }
+        ensures chairs { IfOk result (λ opened. AreFresh opened.0 seats opened.1.items) }
     {
         let room = Vec::with_capacity(alloc, seats as usize)?;
         let mut slots = Vec::with_capacity(alloc, 1)?;
@@ -66,13 +70,25 @@ impl<T: Story + Send + Drop> TurnLock<T> {
     }
 
     /// The value, once all chairs are back. Its list goes on from what each chair has seen, with no entry
-    /// of that chair.
+    /// of that chair. Behind the list of the opening each entry is a chair's. It takes no memory.
     pub fn close(self, chairs: Vec<Chair<T>>) -> T
         requires { AreAllOf self chairs.items }
         ensures setting { self.setting ≡ Some (T.setting result) }
         ensures lists { All (λ chair. Learns T.owner chair (T.entries result)) chairs.items }
+        ensures added { GrewByChairs T.owner self.seats self.opening (T.entries result) }
     {
-        let seat = self.gather(chairs);
+        self.close_over(chairs)
+    }
+
+    /// As `close`, over anything that holds a chair of the lock: a caller whose chairs stand in other things hands in
+    /// those, and takes no memory for a list of chairs.
+    pub fn close_over<H: HoldsChair<T> + Drop>(self, holders: Vec<H>) -> T
+        requires { AreAllOf self (map H.chair holders.items) }
+        ensures setting { self.setting ≡ Some (T.setting result) }
+        ensures lists { All (λ chair. Learns T.owner chair (T.entries result)) (map H.chair holders.items) }
+        ensures added { GrewByChairs T.owner self.seats self.opening (T.entries result) }
+    {
+        let seat = self.gather(holders);
         let TurnLock { table } = self;
         let mut closed = table.close_with(seat);
         let value = closed.take(0);

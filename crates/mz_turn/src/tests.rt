@@ -1,10 +1,9 @@
 //! Turns as their callers take them, with memory enough.
-ghost use Rattle.std.specs.Prelude.{◌≡◌, ◌<◌, ℕ, List, None, IfOk, IfSome, vec_len, slice_index_or};
+ghost use Rattle.std.specs.Prelude.{◌≡◌, ◌<◌, ℕ, [], ◌∷◌, map, Some, None, IfOk, IfSome, vec_len, slice_index_or};
 ghost use Rattle.std.specs.List.{All};
 ghost use Rattle.mz_turn.specs.Chair.{AreFresh};
-ghost use Rattle.mz_turn.specs.declared.tests.log.Line.{Line};
 
-use crate::{Chair, Note, Story, TurnLock};
+use crate::{Chair, HoldsChair, Note, Story, TurnLock};
 use log::{Line, Log};
 use mz_num::NoMemory;
 use std::alloc::Global;
@@ -14,6 +13,22 @@ use std::thread;
 use std::thread::Threads;
 
 mod log;
+
+/// Who sits at a chair, and the number of the desk.
+#[derive(Drop)]
+struct Clerk {
+    chair: Chair<Log>,
+    desk: u8,
+}
+
+impl HoldsChair<Log> for Clerk {
+    ghost chair = { λ clerk. clerk.chair };
+
+    fn into_chair(self) -> Chair<Log> {
+        let Clerk { chair, desk: _ } = self;
+        chair
+    }
+}
 
 /// Takes a turn and adds a line in it.
 fn write_line<R: Wait>(rt: &R, lock: &TurnLock<Log>, chair: &mut Chair<Log>, number: u64)
@@ -26,6 +41,17 @@ fn write_line<R: Wait>(rt: &R, lock: &TurnLock<Log>, chair: &mut Chair<Log>, num
         number,
     });
     lock.put_back(chair, log);
+}
+
+/// The log of a lock that was opened over an empty one: each line in it is of a chair of the lock.
+fn take_log<R: Wait>(rt: &R, lock: &TurnLock<Log>, chair: &mut Chair<Log>) -> Log
+    requires chair { (chair.old.lock ≡ lock.now) × (chair.old.taken ≡ None) }
+    requires opening { lock.now.opening ≡ [] }
+    ensures lines { All (λ line. line.chair < lock.now.seats) result.lines.items }
+    ensures setting { lock.now.setting ≡ Some result.name }
+    ensures turn { (chair.new.lock ≡ lock.now) × (chair.new.taken ≡ Some result.lines.items) }
+{
+    lock.take(rt, chair)
 }
 
 /// Takes 125 turns with a line in each.
@@ -62,8 +88,10 @@ fn write_all<R: Threads + Wait + Sync>(
     Ok(back)
 }
 
-/// Eight threads write 1,000 lines, each its share.
-fn written_by_eight<R: Threads + Wait + Sync>(rt: &R, alloc: Global) -> Result<Log, NoMemory> {
+/// Eight threads write 1,000 lines, each its share. Each line in the log is of one of the eight.
+fn written_by_eight<R: Threads + Wait + Sync>(rt: &R, alloc: Global) -> Result<Log, NoMemory>
+    ensures { IfOk result (λ log. All (λ line. line.chair < 8) log.lines.items) }
+{
     let (lock, chairs) = TurnLock::open(alloc, Log::new(alloc, 7), 8)?;
     let chairs = write_all(rt, &lock, chairs)?;
     Ok(lock.close(chairs))
@@ -71,9 +99,9 @@ fn written_by_eight<R: Threads + Wait + Sync>(rt: &R, alloc: Global) -> Result<L
 
 /// The two chairs of a lock, in their order.
 fn two_chairs(lock: &TurnLock<Log>, mut chairs: Vec<Chair<Log>>) -> Option<(Chair<Log>, Chair<Log>)>
-    requires { (list : List Line) × AreFresh lock.now list 2 chairs.items }
-    ensures { IfSome result (λ two. (two.0.lock ≡ lock.now) × (two.0.taken ≡ None) × (two.1.lock ≡ lock.now)
-        × (two.1.taken ≡ None)) }
+    requires { AreFresh lock.now 2 chairs.items }
+    ensures { IfSome result (λ two. (two.0.lock ≡ lock.now) × (two.0.taken ≡ None) × (two.0.number ≡ 0)
+        × (two.1.lock ≡ lock.now) × (two.1.taken ≡ None) × (two.1.number ≡ 1)) }
 {
     let _ = lock;
     let second = chairs.pop()?;
@@ -162,7 +190,7 @@ fn taken_after_a_note<R: Wait>(rt: &R, alloc: Global) -> Result<Option<u64>, NoM
     };
     let note = write_note(rt, &lock, first);
     lock.join(&mut second, note);
-    let log = lock.take(rt, &mut second);
+    let log = take_log(rt, &lock, &mut second);
     let lines = log.length();
     lock.put_back(&mut second, log);
     Ok(Some(lines))
@@ -180,6 +208,33 @@ fn count_after_two_notes<R: Wait>(rt: &R, alloc: Global) -> Result<Option<u64>, 
     lock.join(&mut second, later);
     lock.join(&mut second, earlier);
     Ok(Some(lock.count(&mut second)))
+}
+
+/// Two clerks with these chairs.
+fn two_clerks(alloc: Global, first: Chair<Log>, second: Chair<Log>) -> Result<Vec<Clerk>, NoMemory>
+    ensures { IfOk result (λ clerks. map (λ clerk. clerk.chair) clerks.items ≡ first ∷ second ∷ []) }
+{
+    let mut clerks = Vec::with_capacity(alloc, 2)?;
+    clerks.push_reserved(Clerk {
+        chair: first,
+        desk: 1,
+    });
+    clerks.push_reserved(Clerk {
+        chair: second,
+        desk: 2,
+    });
+    Ok(clerks)
+}
+
+/// The number of lines of a lock that closes over two clerks, once the second has written a line.
+fn lines_of_two_clerks<R: Wait>(rt: &R, alloc: Global) -> Result<Option<u64>, NoMemory> {
+    let (lock, chairs) = TurnLock::open(alloc, Log::new(alloc, 7), 2)?;
+    let Some((first, mut second)) = two_chairs(&lock, chairs) else {
+        return Ok(None);
+    };
+    write_line(rt, &lock, &mut second, 0);
+    let clerks = two_clerks(alloc, first, second)?;
+    Ok(Some(lock.close_over(clerks).length()))
 }
 
 /// The length of a value that is put under a lock and taken out at once, by a caller that knows only its bounds.
@@ -223,6 +278,12 @@ fn a_take_after_a_note_finds_its_line(rt: HostRuntime) -> Result<(), Fail> {
 #[test]
 fn a_count_after_two_notes_tells_of_both(rt: HostRuntime) -> Result<(), Fail> {
     assert_eq!(rt; count_after_two_notes(&rt, rt.alloc())?, Some(2));
+    Ok(())
+}
+
+#[test]
+fn a_lock_closes_over_what_holds_its_chairs(rt: HostRuntime) -> Result<(), Fail> {
+    assert_eq!(rt; lines_of_two_clerks(&rt, rt.alloc())?, Some(1));
     Ok(())
 }
 

@@ -9,6 +9,8 @@ pub(crate) struct View<E, S> {
     pub(crate) seats: u64,
     /// The setting of the value, and none once the view is spent.
     pub(crate) setting: Option<S>,
+    /// The value's list at the opening.
+    pub(crate) opening: LinkedList<E>,
     /// The list that was seen.
     pub(crate) seen: LinkedList<E>,
     /// The numbers that the view keeps, each with the list that was seen under it.

@@ -1,11 +1,12 @@
 //! Chairs are dealt at the opening, and come together at the close.
-ghost use Rattle.std.specs.Prelude.{◌≡◌, ◌<◌, ◌≤◌, ℕ, List, [], length, Some, None, vec_capacity};
+ghost use Rattle.std.specs.Prelude.{◌≡◌, ◌<◌, ◌≤◌, ℕ, List, [], length, map, Some, None, vec_capacity};
 ghost use Rattle.std.specs.List.{All};
 ghost use Rattle.mz_turn.specs.Chair.{AreFresh, AreAllOf};
 ghost use Rattle.mz_turn.specs.Gathering.{dealt_to, Gathers};
 
 use super::TurnLock;
 use crate::chair::{Chair, Place};
+use crate::holder::HoldsChair;
 use crate::steps::{Both, Deal, Enter};
 use crate::story::Story;
 
@@ -19,8 +20,8 @@ impl<T: Story + Send + Drop> TurnLock<T> {
     ) -> Vec<Chair<T>>
         requires lock { (seat.table_id ≡ self.now.table) × (seats ≡ self.now.seats) }
         requires room { (chairs.items ≡ []) × (seats ≤ vec_capacity chairs) }
-        requires first { seat.me ≡ (dealt_to self.now seat.me.0.seen 0, []) }
-        ensures { AreFresh self.now seat.me.0.seen seats result.items }
+        requires first { seat.me ≡ (dealt_to self.now 0, []) }
+        ensures { AreFresh self.now seats result.items }
     {
         for number in 0..seats {
             let dealt = self.table.shared.split_seat::<Deal>(&mut seat);
@@ -33,15 +34,16 @@ impl<T: Story + Send + Drop> TurnLock<T> {
         chairs
     }
 
-    // Joins all chairs into one seat, which then keeps every number.
-    pub(super) fn gather(&self, mut chairs: Vec<Chair<T>>) -> Place<T>
-        requires { AreAllOf self.now chairs.items }
+    // Joins the chairs of all holders into one seat, which then keeps every number.
+    pub(super) fn gather<H: HoldsChair<T> + Drop>(&self, mut holders: Vec<H>) -> Place<T>
+        requires { AreAllOf self.now (map H.chair holders.items) }
         ensures seat { (result.table_id ≡ self.now.table) × (result.me.1 ≡ []) }
-        ensures view { Gathers T.owner self.now.seats chairs.items result.me.0 }
+        ensures view { Gathers T.owner self.now.seats (map H.chair holders.items) result.me.0 }
     {
         let shared = &self.table.shared;
         let mut seat = shared.load_new_seat::<Enter<T>>(0).1;
-        while let Some(chair) = chairs.pop() {
+        while let Some(holder) = holders.pop() {
+            let chair = holder.into_chair();
             let Chair {
                 number: _,
                 length: _,

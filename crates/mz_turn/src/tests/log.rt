@@ -34,7 +34,9 @@ impl Story for Log {
 }
 
 impl Log {
-    pub(super) fn new(alloc: Global, name: u32) -> Log {
+    pub(super) fn new(alloc: Global, name: u32) -> Log
+        ensures { result.lines.items ≡ [] }
+    {
         Log {
             name,
             lines: Vec::new(alloc),

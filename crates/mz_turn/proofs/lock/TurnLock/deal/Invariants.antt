@@ -6,7 +6,7 @@ use Rattle.mz_turn.proofs.lock.TurnLock.deal.Given as goal
 abbrev pub invariant-loop-number : goal.invariant-loop-number
 invariant-loop-number g l = record {
   table : l.seat.table_id ≡ l.initial.seat.table_id;
-  seat : l.seat.me ≡ (dealt_to l.self l.initial.seat.me.0.seen l.number, []);
+  seat : l.seat.me ≡ (dealt_to l.self l.number, []);
   room : l.seats ≤ vec_capacity l.chairs;
-  chairs : AreFresh l.self l.initial.seat.me.0.seen l.number l.chairs.items;
+  chairs : AreFresh l.self l.number l.chairs.items;
 }

@@ -10,7 +10,7 @@ use Rattle.mz_turn.proofs.lock.TurnLock.try_take.Goals as goal
 pub compare_exchange-found-requires : goal.compare_exchange-found-requires
 compare_exchange-found-requires g c =
     let e = ap (λ x. x.lock) c.chair.view_is ∙ (c.requires.lock ∙ sym c.self.view_is) in let idle = ap (λ x. x.taken) c.chair.view_is ∙ c.requires.idle in let slots = c.self.inside.table.shared.table_id.slots in
-    (ap (λ x. x.table) e, omega (arith, c.self.invariant.0), chair_tries g.T.Story.entries g.T.Story.owner g.T.Story.setting _ _ _ slots _ c.chair.inside.seat.me (step slots 0 0 (c.chair.inside.number + 1) none) c.chair.inside.number c.chair.inside.length c.chair.invariant idle (ap (λ x. x.setting) e) (ap (λ x. x.seats) e))
+    (ap (λ x. x.table) e, omega (arith, c.self.invariant.0), chair_tries g.T.Story.entries g.T.Story.owner g.T.Story.setting _ _ _ slots _ c.chair.inside.seat.me (step slots 0 0 (c.chair.inside.number + 1) none) c.chair.inside.number c.chair.inside.length c.chair.invariant idle (ap (λ x. x.setting) e) (ap (λ x. x.seats) e) (ap (λ x. x.opening) e))
 
 pub exchange-value-requires : goal.exchange-value-requires
 exchange-value-requires g c = let t = c.compare_exchange-found.ensures in let won = t.2.0 c.if-found-ne0.false in
