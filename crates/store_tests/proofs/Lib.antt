@@ -1,1 +1,3 @@
+pub mod BareLaws
 pub mod CallerLaws
+pub mod PassLaws

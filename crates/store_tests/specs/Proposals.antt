@@ -1,5 +1,5 @@
 -- What the tests' passes propose.
-use Rattle.std.specs.Prelude.{◌≡◌, ◌<◌, ℕ, Some, length}
+use Rattle.std.specs.Prelude.{◌≡◌, ◌<◌, ℕ, List, Some, length, slice_index_or}
 use Rattle.mz_model.specs.declared.parts.Parts.{Parts}
 use Rattle.mz_model.specs.Zones.{free_units}
 use Rattle.mz_delta.specs.declared.judged.Judged.{Judged}
@@ -15,12 +15,18 @@ pub record IsRunOf (store : StoreState) (parts : Parts) (seed : ℕ) : Type 0 wh
   pub run : store.run.setting.run ≡ 1
   pub some_free : 0 < length (free_units parts)
 
--- two passes of the store
+-- the passes of the store's seats 0 and 1
 pub record AreOf (store : StoreState) (a b : PassState) : Type 0 where
   pub first : a.store ≡ store.board
   pub second : b.store ≡ store.board
-  pub first_seat : a.seat < 60
-  pub second_seat : b.seat < 60
+  pub first_seat : a.seat ≡ 0
+  pub second_seat : b.seat ≡ 1
+
+-- passes of the store, one for each seat, in the order of the seats
+pub record AreInOrder (store : StoreState) (passes : List PassState) : Type 0 where
+  pub count : length passes ≡ store.run.seats
+  pub each : (seat : ℕ) (other : PassState) → seat < length passes
+      → ((slice_index_or passes seat other).store ≡ store.board) × ((slice_index_or passes seat other).seat ≡ seat)
 
 -- this was read last by the pass, and judged for its next draw
 pub record IsProposed (store : StoreState) (pass : PassState) (reading : Reading) (judged : Judged) : Type 0 where
