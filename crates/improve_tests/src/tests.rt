@@ -1,0 +1,2 @@
+mod improved;
+mod problems;

@@ -1,0 +1,4 @@
+pub mod BestLaws
+pub mod PassLaws
+pub mod ScoreLaws
+pub mod TotalLaws
