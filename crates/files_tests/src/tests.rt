@@ -1,0 +1,4 @@
+mod missing;
+mod problems;
+mod solutions;
+mod sums;

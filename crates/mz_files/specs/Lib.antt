@@ -1,0 +1,7 @@
+pub mod Fields
+pub mod Missed
+pub mod Missing
+pub mod Solution
+pub mod Summary
+pub mod Summed
+pub mod Turns
