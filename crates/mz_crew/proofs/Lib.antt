@@ -1,0 +1,3 @@
+pub mod CrewLaws
+pub mod CrossingLaws
+pub mod WorkLaws
