@@ -1,6 +1,7 @@
 //! The program: a reserve planner over the real files of the folder that it runs in.
 #![tactic(auto)]
 
+use mz_crew::OpenGate;
 use mz_run::{code, marzone};
 use mz_shelf::DirShelf;
 use std::process::ExitCode;
@@ -14,7 +15,7 @@ fn main(rt: HostRuntime) -> ExitCode {
     };
     let chance = seconds(&rt);
     let mut shelf = DirShelf::new(&rt, String::new(rt.alloc()));
-    let finished = marzone(rt.alloc(), &words, chance, &mut shelf);
+    let finished = marzone(&rt, rt.alloc(), &words, chance, &mut shelf, &OpenGate);
     ExitCode::from(code(&finished.status))
 }
 

@@ -1,4 +1,6 @@
 mod AnnealLemmas
+mod ClosingLemmas
+mod CountLemmas
 mod EndingLemmas
 mod PreparedLemmas
 mod RunLemmas

@@ -13,10 +13,10 @@ use Rattle.mz_project.specs.declared.fault.InputFault.{InputFault}
 use Rattle.mz_project.specs.declared.fault.Which.TheVariants.{Params as ParamFile}
 use Rattle.mz_project.specs.GivenFiles.{given_files}
 use Rattle.mz_project.specs.Project.{of_params, params_read, project_read}
-use Rattle.mz_project.specs.ReadAs.{IfTold, IsGiven, IsStopped, ReadEach, TakenAs}
+use Rattle.mz_project.specs.ReadAs.{IfTold, IsGiven, IsStopped, ReadEach}
 use Rattle.mz_project.specs.Reads.{Outcome, Reads, bytes_of, read_behind, taken}
 use Rattle.mz_project.specs.Reads.Outcome.{Missing, Refused, Given}
-use Rattle.mz_project.proofs.ReadLemmas.{by_default, goes_on, if_both, is_taken, read_on, stops, told_along}
+use Rattle.mz_project.proofs.ReadLemmas.{by_default, goes_on, if_both, read_on, stops, told_along}
 use Rattle.mz_run.specs.declared.job.Job.{Job}
 use Rattle.mz_run.specs.declared.status.Status.{Status}
 use Rattle.mz_run.specs.declared.status.Status.TheVariants.{Words}
@@ -24,7 +24,7 @@ use Rattle.mz_run.specs.Arguments.{Form}
 use Rattle.mz_run.specs.Arguments.Form.{File}
 use Rattle.mz_run.specs.Prepared.{IsInputStopped, IsPrepared, NotPrepared, Prepared}
 use Rattle.mz_run.specs.Run.{seed_of}
-use Rattle.mz_run.specs.Project.{InputStopped, asked_of, built_params, parts_asked, project_asked, project_of, status_of_read}
+use Rattle.mz_run.specs.Project.{InputStopped, asked_of, parts_asked, project_of, status_of_read}
 
 -- why a reading stopped, as a status
 pub input_stopped : {X : Type 0} (reads : Files → Reads X) (old new : State) (f : ReadFault) → IsStopped reads old new f → InputStopped reads old new (status_of_read f)
@@ -39,31 +39,22 @@ input_fails old new name workers f h = record { started = old; start = DidAll-ni
 -- the parameter file stopped
 pub params_stopped : (old new : State) (name : List ℕ) (workers : ℕ) (f : ReadFault) → IsStopped (params_read name) old new f → IsInputStopped (File name workers) old new (status_of_read f)
 unfolding asked_of
-params_stopped old new name workers f h = input_fails old new name workers f (stops (params_read name) project_asked old new f h)
-
--- a key asks for what isn't built
-pub unbuilt_stopped : (old new : State) (name : List ℕ) (workers : ℕ) (params : Params) (f : ReadFault) → IsGiven (params_read name) old new params → TakenAs (built_params params) (Err f) → IsInputStopped (File name workers) old new (status_of_read f)
-unfolding asked_of
-unbuilt_stopped old new name workers params f given taken_as =
-    input_fails old new name workers f
-    (goes_on (params_read name) project_asked params old new new (Err f) given (stops (λ _. taken (built_params params)) parts_asked new new f (is_taken (built_params params) new (Err f) taken_as)))
+params_stopped old new name workers f h = input_fails old new name workers f (stops (params_read name) parts_asked old new f h)
 
 -- a file of the project stopped
-pub project_stopped : (old mid new : State) (name : List ℕ) (workers : ℕ) (params built : Params) (f : ReadFault) → IsGiven (params_read name) old mid params → TakenAs (built_params params) (Ok built)
-    → IsStopped (project_read built) mid new f → IsInputStopped (File name workers) old new (status_of_read f)
+pub project_stopped : (old mid new : State) (name : List ℕ) (workers : ℕ) (params : Params) (f : ReadFault) → IsGiven (params_read name) old mid params
+    → IsStopped (project_read params) mid new f → IsInputStopped (File name workers) old new (status_of_read f)
 unfolding asked_of
-project_stopped old mid new name workers params built f given taken_as h =
+project_stopped old mid new name workers params f given h =
     input_fails old new name workers f
-    (goes_on (params_read name) project_asked params old mid new (Err f) given
-    (goes_on (λ _. taken (built_params params)) parts_asked built mid mid new (Err f) (is_taken (built_params params) mid (Ok built) taken_as) (stops (project_read built) (λ parts files. taken (Ok (project_of built parts))) mid new f h)))
+    (goes_on (params_read name) parts_asked params old mid new (Err f) given (stops (project_read params) (λ parts files. taken (Ok (project_of params parts))) mid new f h))
 
 -- the project is given
-project_given : (old mid new : State) (name : List ℕ) (params built : Params) (parts : Parts) → IsGiven (params_read name) old mid params → TakenAs (built_params params) (Ok built) → IsGiven (project_read built) mid new parts → IsGiven (asked_of name) old new (project_of built parts)
+project_given : (old mid new : State) (name : List ℕ) (params : Params) (parts : Parts) → IsGiven (params_read name) old mid params → IsGiven (project_read params) mid new parts → IsGiven (asked_of name) old new (project_of params parts)
 unfolding asked_of
-project_given old mid new name params built parts given taken_as whole =
-    goes_on (params_read name) project_asked params old mid new (Ok (project_of built parts)) given
-    (goes_on (λ _. taken (built_params params)) parts_asked built mid mid new (Ok (project_of built parts)) (is_taken (built_params params) mid (Ok built) taken_as)
-    (goes_on (project_read built) (λ parts files. taken (Ok (project_of built parts))) parts mid new new (Ok (project_of built parts)) whole (by_default (project_of built parts) (project_of built parts) new refl)))
+project_given old mid new name params parts given whole =
+    goes_on (params_read name) parts_asked params old mid new (Ok (project_of params parts)) given
+    (goes_on (project_read params) (λ parts files. taken (Ok (project_of params parts))) parts mid new new (Ok (project_of params parts)) whole (by_default (project_of params parts) (project_of params parts) new refl))
 
 -- the parameter file was read, and then each file that it gives
 names_behind : {X Y : Type 0} (names : List (List ℕ)) (o : Outcome X) (make : X → Result Y InputFault) → (read_behind names o (λ x. taken (make x))).names ≡ names
@@ -84,14 +75,14 @@ files_read name params built old mid new given rest =
     (λ files first more. one_then name (params_read name files).names (given_files built) old mid new (params_names name files) first more) given.names (told_along old mid (λ _. ReadEach (given_files built) mid new) given.read.contents rest)
 
 -- a job of a given project
-pub file_prepared : (name : List ℕ) (workers chance : ℕ) (old mid new : State) (params : Params) (job : Job) → IsGiven (params_read name) old mid params → TakenAs (built_params params) (Ok job.params)
+pub file_prepared : (name : List ℕ) (workers chance : ℕ) (old mid new : State) (job : Job) → IsGiven (params_read name) old mid job.params
     → IsGiven (project_read job.params) mid new job.problem → IfTold mid (λ _. ReadEach (given_files job.params) mid new) → IsAccepted job.params → job.workers ≡ workers → job.generated ≡ None → job.seed ≡ seed_of job.params chance
     → IsPrepared (File name workers) chance old new job
-file_prepared name workers chance old mid new params job given taken_as whole rest accepted own_workers generated seed = record {
+file_prepared name workers chance old mid new job given whole rest accepted own_workers generated seed = record {
   started = old;
   start = DidAll-nil old;
-  input = project_given old mid new name params job.params job.problem given taken_as whole;
-  files = files_read name params job.params old mid new given rest;
+  input = project_given old mid new name job.params job.problem given whole;
+  files = files_read name job.params job.params old mid new given rest;
   accepted = accepted;
   workers = own_workers;
   generated = generated;

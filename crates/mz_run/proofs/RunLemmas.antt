@@ -3,30 +3,38 @@ use Rattle.std.proofs.Common.{◌≡◌, ℕ, suc, ◌+◌, ◌-◌, ◌<◌, �
 use Rattle.std.specs.Prelude.{nat_lt, if◌then◌else◌}
 use Rattle.std.proofs.Math.Nat.{add-zero}
 use Rattle.std.proofs.Math.Seq.{get_or-append_seam}
-use Rattle.std.proofs.lemmas.List.{get_or_append_left, map-append}
+use Rattle.std.proofs.lemmas.List.{get_or_append_left, length-map, map-append}
 use Rattle.std.proofs.lemmas.Grind.{flat_map-append}
 use Rattle.std.specs.List.{All}
+use Rattle.std.proofs.lemmas.List.Elements.{All-cons, All-nil, All-weaker}
 use Rattle.mz_shelf.specs.State.{State}
 use Rattle.mz_shelf.specs.Act.{Act}
 use Rattle.mz_shelf.specs.Chain.{DidAll}
 use Rattle.mz_shelf.specs.Performed.{Stopped}
 use Rattle.mz_shelf.specs.declared.stop.Stop.{Stop}
+use Rattle.mz_shelf.specs.declared.stop.Stop.TheVariants.{NoMemory}
 use Rattle.mz_shelf.proofs.ChainLemmas.{DidAll-nil, DidAll-append}
 use Rattle.mz_model.specs.declared.score.Score.{Score}
 use Rattle.mz_model.specs.Plans.{IsLegalPlan}
 use Rattle.mz_model.specs.Scores.{score_of_plan}
-use Rattle.mz_run.specs.declared.anneal.Annealed.{Annealed}
+use Rattle.mz_delta.specs.Reading.{totals_of_plan}
+use Rattle.mz_num.specs.Limits.{most_runs}
+use Rattle.mz_sums.specs.Sums.{Sums, sums_of}
+use Rattle.mz_files.specs.declared.summary.SummaryRow.{SummaryRow}
+use Rattle.mz_files.specs.Turns.{AreSeats}
+use Rattle.mz_run.specs.declared.counted.Counted.{Counted}
+use Rattle.mz_run.specs.declared.run_end.RunEnd.{RunEnd}
 use Rattle.mz_run.specs.declared.job.Job.{Job}
-use Rattle.mz_run.specs.declared.trail.RunTrail.{RunTrail}
+use Rattle.mz_files.specs.declared.trail.RunTrail.{RunTrail}
 use Rattle.mz_run.specs.declared.runs.BestRun.{BestRun}
-use Rattle.mz_run.specs.Annealed.{IsAnnealed}
-use Rattle.mz_run.specs.Acts.{acts_of_trails, plan_of_run, run_acts, scores_of}
+use Rattle.mz_run.specs.End.{IsEnd}
+use Rattle.mz_run.specs.Acts.{acts_of_trails, plan_of_run, plans_of, run_acts, scores_of, summary_row, summary_rows}
 use Rattle.mz_run.specs.Best.{Best, better, best_from, best_of}
-use Rattle.mz_run.specs.Ran.{IsBestRun, KeepsBest, RanFirst, RanOnce, RunStopped, RunsStopped, best_in, better_run}
+use Rattle.mz_run.specs.Ran.{CountsMore, HasCounted, IsBestRun, KeepsBest, RanFirst, RanOnce, RunStopped, RunsStopped, best_in, better_run}
 use Rattle.mz_run.specs.Ran.RunStopped.{no_trail, in_acts}
 use Rattle.mz_run.specs.Ran.StopsIn.{between_runs, in_one}
 use Rattle.mz_history.specs.Replay.{IsLegalHistory, replay_of}
-use Rattle.mz_run.specs.Run.{annealed_plan, final_plan, setting_of}
+use Rattle.mz_run.specs.Run.{final_plan, setting_of}
 use Rattle.mz_run.specs.Trail.{AreTrailsFrom, IsTrail}
 
 -- one trail more
@@ -96,6 +104,7 @@ record IsNext (job : Job) (trails : List RunTrail) (trail : RunTrail) (last : Be
   trail_is : IsTrail job (1 + length trails) trail
   score_is : last.score ≡ trail.score
   plan_is : last.plan ≡ final_plan job (1 + length trails) trail.turns
+  totals_are : last.totals.items ≡ totals_of_plan job.problem last.plan
 
 last_kept : (job : Job) (trails : List RunTrail) (trail : RunTrail) (last : BestRun) → IsNext job trails trail last → best_of (scores_of (trails ++ trail ∷ [])) ≡ Some (best_in last) → IsBestRun job (trails ++ trail ∷ []) last
 last_kept job trails trail last next best =
@@ -106,6 +115,7 @@ last_kept job trails trail last next best =
       within = omega (arith, next.run_is, length-push trails trail (length trails) refl);
       plan_is = next.plan_is ∙ ap (λ n. final_plan job n trail.turns) (sym next.run_is) ∙ sym (plan_of_run-last job trails trail last.run next.run_is);
       legal = subst (IsLegalPlan job.problem) own next.trail_is.legal;
+      totals_are = next.totals_are;
       score_is = next.score_is ∙ next.trail_is.score ∙ ap (score_of_plan job.problem) own;
     }
 
@@ -116,6 +126,7 @@ earlier_kept job trails trail kept is best = record {
   within = omega (arith, is.within, length-push trails trail (length trails) refl);
   plan_is = is.plan_is ∙ sym (plan_of_run-earlier job trails trail kept.run is.from_one is.within);
   legal = is.legal;
+  totals_are = is.totals_are;
   score_is = is.score_is;
 }
 
@@ -134,50 +145,78 @@ best_more job trails trail (Some kept) last keeps next =
     (best_of-push trails trail (Some (best_in kept)) last.run keeps.best next.run_is
     ∙ ap (λ (score : Score). Some (better (Some (best_in kept)) last.run score)) (sym next.score_is))
 
+-- what is counted, with one run more
+counted_more : (job : Job) (trails : List RunTrail) (trail : RunTrail) (old new : Counted) → HasCounted job trails old → CountsMore job trail old new → HasCounted job (trails ++ trail ∷ []) new
+counted_more job trails trail old new has more = record {
+  rows = more.rows ∙ ap (λ (rows : List SummaryRow). rows ++ summary_row job trail ∷ []) has.rows ∙ sym (map-append (summary_row job) trails (trail ∷ []));
+  summed = more.summed (plans_of job trails) has.summed ∙ ap (sums_of job.problem) (sym (map-append (λ (t : RunTrail). final_plan job t.run t.turns) trails (trail ∷ [])));
+}
+
 -- no run yet
-pub ran_none : (job : Job) (trails : List RunTrail) (state : State) → trails ≡ [] → RanFirst job 0 trails state state None
-ran_none job trails state none = subst (λ (ts : List RunTrail). RanFirst job 0 ts state state None) (sym none) (record {
+pub ran_none : (job : Job) (trails : List RunTrail) (counted : Counted) (state : State) → trails ≡ [] → HasCounted job [] counted → RanFirst job 0 trails counted state state None
+ran_none job trails counted state none has = subst (λ (ts : List RunTrail). RanFirst job 0 ts counted state state None) (sym none) (record {
   runs = tt;
+  counts = has;
   whole = refl;
   acts = DidAll-nil state;
   best = refl;
 })
 
+-- memory ended the runs before the first
+pub none_ran : (job : Job) (trails : List RunTrail) (state : State) (stop : Stop) → trails ≡ [] → stop ≡ NoMemory → RunsStopped job trails state state stop
+none_ran job trails state stop none memory = subst (λ (ts : List RunTrail). RunsStopped job ts state state stop) (sym none) (record {
+  runs = tt;
+  few = omega arith;
+  ends = between_runs memory (DidAll-nil state);
+})
+
+-- few plans are counted, and they are plans of the job's problem
+pub few_counted : (job : Job) (count : ℕ) (trails : List RunTrail) (counted : Counted) (old new : State) (kept : Option BestRun) → RanFirst job count trails counted old new kept → count < job.params.reps → job.params.reps ≤ most_runs → counted.summed.added < most_runs
+few_counted job count trails counted old new kept ran few most =
+    let added : counted.summed.added ≡ length (plans_of job trails) = ap (λ (s : Sums). s.added) ran.counts.summed in
+    let plans : length (plans_of job trails) ≡ length trails = length-map trails (λ (t : RunTrail). final_plan job t.run t.turns) in
+    omega (arith, added, plans, ran.whole)
+
+pub own_counted : (job : Job) (count : ℕ) (trails : List RunTrail) (counted : Counted) (old new : State) (kept : Option BestRun) → RanFirst job count trails counted old new kept → counted.summed.parts ≡ job.problem
+own_counted job count trails counted old new kept ran = ap (λ (s : Sums). s.parts) ran.counts.summed
+
 -- one run more
-ran_one : (job : Job) (before : List RunTrail) (trail : RunTrail) (old mid new : State) (kept : Option BestRun) (last : BestRun) → RanFirst job (length before) before old mid kept → IsNext job before trail last → DidAll (run_acts job trail) mid new
-    → RanFirst job (length before + 1) (before ++ trail ∷ []) old new (Some (better_run kept last))
-ran_one job before trail old mid new kept last ran next did = record {
+ran_one : (job : Job) (before : List RunTrail) (trail : RunTrail) (counted more : Counted) (old mid new : State) (kept : Option BestRun) (last : BestRun) → RanFirst job (length before) before counted old mid kept → IsNext job before trail last → CountsMore job trail counted more
+    → DidAll (run_acts job trail) mid new → RanFirst job (length before + 1) (before ++ trail ∷ []) more old new (Some (better_run kept last))
+ran_one job before trail counted more old mid new kept last ran next counts did = record {
   runs = AreTrailsFrom-push job 1 before trail ran.runs next.trail_is;
+  counts = counted_more job before trail counted more ran.counts counts;
   whole = length-push before trail (length before) refl;
   acts = subst (λ (acts : List Act). DidAll acts old new) (sym (acts_of_trails-push job before trail)) (DidAll-append ran.acts did);
   best = best_more job before trail kept last ran.best next;
 }
 
-pub ran_more : (job : Job) (count : ℕ) (before after : List RunTrail) (old mid new : State) (kept : Option BestRun) (last : BestRun) → RanFirst job count before old mid kept → RanOnce job (count + 1) before after mid new last
-    → RanFirst job (count + 1) after old new (Some (better_run kept last))
-ran_more job count before after old mid new kept last ran once =
+pub ran_more : (job : Job) (count : ℕ) (before after : List RunTrail) (counted more : Counted) (old mid new : State) (kept : Option BestRun) (last : BestRun) → RanFirst job count before counted old mid kept → RanOnce job (count + 1) before after counted more mid new last
+    → RanFirst job (count + 1) after more old new (Some (better_run kept last))
+ran_more job count before after counted more old mid new kept last ran once =
     let next : count + 1 ≡ 1 + length before = omega (arith, ran.whole) in
-    let more : RanFirst job (length before + 1) (before ++ once.trail ∷ []) old new (Some (better_run kept last)) =
-    ran_one job before once.trail old mid new kept last (subst (λ n. RanFirst job n before old mid kept) (sym ran.whole) ran)
+    let longer : RanFirst job (length before + 1) (before ++ once.trail ∷ []) more old new (Some (better_run kept last)) =
+    ran_one job before once.trail counted more old mid new kept last (subst (λ n. RanFirst job n before counted old mid kept) (sym ran.whole) ran)
     (record {
       run_is = once.run_is ∙ next;
       trail_is = subst (λ n. IsTrail job n once.trail) next once.is_trail;
       score_is = once.score_is;
       plan_is = once.plan_is ∙ ap (λ n. final_plan job n once.trail.turns) next;
-    }) once.acts in
-    subst (λ (ts : List RunTrail). RanFirst job (count + 1) ts old new (Some (better_run kept last))) (sym once.kept)
-    (subst (λ n. RanFirst job (n + 1) (before ++ once.trail ∷ []) old new (Some (better_run kept last))) ran.whole more)
+      totals_are = once.totals_are;
+    }) once.counts once.acts in
+    subst (λ (ts : List RunTrail). RanFirst job (count + 1) ts more old new (Some (better_run kept last))) (sym once.kept)
+    (subst (λ n. RanFirst job (n + 1) (before ++ once.trail ∷ []) more old new (Some (better_run kept last))) ran.whole longer)
 
 -- a run stopped
-pub runs_stop : (job : Job) (count : ℕ) (before after : List RunTrail) (old mid new : State) (kept : Option BestRun) (stop : Stop) → count < job.params.reps → RanFirst job count before old mid kept → RunStopped job (count + 1) before after mid new stop
+pub runs_stop : (job : Job) (count : ℕ) (before after : List RunTrail) (counted : Counted) (old mid new : State) (kept : Option BestRun) (stop : Stop) → count < job.params.reps → RanFirst job count before counted old mid kept → RunStopped job (count + 1) before after mid new stop
     → RunsStopped job after old new stop
-runs_stop job count before after old mid new kept stop few ran (no_trail memory same still) =
+runs_stop job count before after counted old mid new kept stop few ran (no_trail memory same still) =
     subst (λ (ts : List RunTrail). RunsStopped job ts old new stop) (sym same) (record {
       runs = ran.runs;
       few = omega (arith, ran.whole);
       ends = between_runs memory (subst (λ (state : State). DidAll (acts_of_trails job before) old state) (sym still) ran.acts);
     })
-runs_stop job count before after old mid new kept stop few ran (in_acts trail grown is stopped) =
+runs_stop job count before after counted old mid new kept stop few ran (in_acts trail grown is stopped) =
     let next : count + 1 ≡ 1 + length before = omega (arith, ran.whole) in
     subst (λ (ts : List RunTrail). RunsStopped job ts old new stop) (sym grown) (record {
       runs = AreTrailsFrom-push job 1 before trail ran.runs (subst (λ n. IsTrail job n trail) next is);
@@ -195,18 +234,28 @@ one_more before after x found place ok end kept is at =
     let grown : after ≡ before ++ x ∷ [] = is ∙ ap (λ b. cond b (before ++ x ∷ []) before) kept in
     (grown, at ∙ ap (λ xs. get_or xs place found) grown ∙ ap (λ n. get_or (before ++ x ∷ []) n found) end ∙ get_or-append_seam before x [] found)
 
--- the trail of a run that was annealed
-pub trail_of : (job : Job) (run : ℕ) (annealed : Annealed) (turns : List ℕ) (score : Score) → IsAnnealed job run annealed → turns ≡ annealed.turns → score ≡ annealed.score
+-- the trail of a run that ended
+pub trail_of : (job : Job) (run : ℕ) (end : RunEnd) (turns : List ℕ) (score : Score) → IsEnd job run (final_plan job run) end → turns ≡ end.turns → score ≡ end.score
     → IsTrail job run (record { run = run; seed = job.seed; turns = turns; score = score })
-trail_of job run annealed turns score is own_turns own_score = record {
+trail_of job run end turns score is own_turns own_score = record {
   run_is = refl;
   seed = refl;
   entries = ap length own_turns ∙ is.entries;
   seats = subst (λ (all : List ℕ). All (λ seat. seat < job.workers) all) (sym own_turns) is.seats;
   history = subst (λ (all : List ℕ). IsLegalHistory (setting_of job run) (replay_of (setting_of job run) all)) (sym own_turns) is.history;
   legal = subst (λ (all : List ℕ). IsLegalPlan job.problem (final_plan job run all)) (sym own_turns) (subst (IsLegalPlan job.problem) is.plan_is is.legal);
-  score = own_score ∙ is.score_is ∙ ap (score_of_plan job.problem) (is.plan_is ∙ ap (annealed_plan job run) (sym own_turns));
+  score = own_score ∙ is.score_is ∙ ap (score_of_plan job.problem) (is.plan_is ∙ ap (final_plan job run) (sym own_turns));
 }
+
+-- the seats of trails are those of workers
+seats_from : (job : Job) (run : ℕ) (trails : List RunTrail) → job.workers ≤ 60 → AreTrailsFrom job run trails → All (λ (trail : RunTrail). AreSeats trail.turns) trails
+seats_from job run [] few all = All-nil (λ (trail : RunTrail). AreSeats trail.turns)
+seats_from job run (trail ∷ trails) few all =
+    All-cons (λ (t : RunTrail). AreSeats t.turns) trail trails
+    (All-weaker (λ seat. seat < job.workers) (λ seat. seat < 60) (λ seat h. omega arith) trail.turns all.0.seats) (seats_from job (run + 1) trails few all.1)
+
+pub seats_of_trails : (job : Job) (trails : List RunTrail) → job.workers ≤ 60 → AreTrailsFrom job 1 trails → All (λ (trail : RunTrail). AreSeats trail.turns) trails
+seats_of_trails job trails few all = seats_from job 1 trails few all
 
 -- a run whose acts stopped, once its trail was kept
 pub acts_stopped : (job : Job) (run : ℕ) (before after : List RunTrail) (trail found : RunTrail) (place : ℕ) (ok : Bool) (old new : State) (stop : Stop) → IsTrail job run trail → place ≡ length before → ok ≡ true
@@ -216,7 +265,34 @@ acts_stopped job run before after trail found place ok old new stop is end kept 
     in_acts trail more.0 is (subst (λ (t : RunTrail). Stopped (run_acts job t) old new stop) more.1 stopped)
 
 -- all of them
-pub ran_all : (job : Job) (count all : ℕ) (trails : List RunTrail) (old new : State) (kept : Option BestRun) → count ≤ all → all ≤ count → RanFirst job count trails old new kept → RanFirst job all trails old new kept
-ran_all job count all trails old new kept most least ran =
+pub ran_all : (job : Job) (count all : ℕ) (trails : List RunTrail) (counted : Counted) (old new : State) (kept : Option BestRun) → count ≤ all → all ≤ count → RanFirst job count trails counted old new kept → RanFirst job all trails counted old new kept
+ran_all job count all trails counted old new kept most least ran =
     let same : count ≡ all = omega arith in
-    subst (λ n. RanFirst job n trails old new kept) same ran
+    subst (λ n. RanFirst job n trails counted old new kept) same ran
+
+-- a run that was done and counted
+pub ran_once : (job : Job) (run : ℕ) (before after : List RunTrail) (counted rowed more : Counted) (trail found : RunTrail) (place : ℕ) (ok : Bool) (old new : State) (end : RunEnd) (last : BestRun)
+    → IsEnd job run (final_plan job run) end → trail ≡ record { run = run; seed = job.seed; turns = end.turns; score = end.score }
+    → place ≡ length before → ok ≡ true → after ≡ cond ok (before ++ trail ∷ []) before → found ≡ get_or after place found → DidAll (run_acts job found) old new
+    → rowed.rows.items ≡ counted.rows.items ++ summary_row job trail ∷ [] → rowed.summed ≡ counted.summed → counted.summed.parts ≡ job.problem → more.rows.items ≡ rowed.rows.items
+    → ((plans : List (List ℕ)) → rowed.summed ≡ sums_of rowed.summed.parts plans → more.summed ≡ sums_of rowed.summed.parts (plans ++ end.plan ∷ []))
+    → last.run ≡ run → last.score ≡ end.score → last.plan ≡ end.plan → last.totals.items ≡ end.totals.items → RanOnce job run before after counted more old new last
+ran_once job run before after counted rowed more trail found place ok old new end last is trail_is at kept grown here did row same own rows plans run_is score_is plan_is totals_are =
+    let longer = one_more before after trail found place ok at kept grown here in
+    let turns : trail.turns ≡ end.turns = ap (λ (t : RunTrail). t.turns) trail_is in
+    let number : trail.run ≡ run = ap (λ (t : RunTrail). t.run) trail_is in
+    let parts : rowed.summed.parts ≡ job.problem = ap (λ (s : Sums). s.parts) same ∙ own in
+    let final : end.plan ≡ final_plan job trail.run trail.turns = is.plan_is ∙ ap (final_plan job run) (sym turns) ∙ ap (λ n. final_plan job n trail.turns) (sym number) in record {
+      trail = trail;
+      counts = record {
+        rows = rows ∙ row;
+        summed = λ ps h. plans ps (same ∙ h ∙ ap (λ p. sums_of p ps) (sym parts)) ∙ ap (λ p. sums_of p (ps ++ end.plan ∷ [])) parts ∙ ap (λ (zones : List ℕ). sums_of job.problem (ps ++ zones ∷ [])) final;
+      };
+      kept = longer.0;
+      is_trail = subst (λ (t : RunTrail). IsTrail job run t) (sym trail_is) (trail_of job run end end.turns end.score is refl refl);
+      acts = subst (λ (t : RunTrail). DidAll (run_acts job t) old new) longer.1 did;
+      run_is = run_is;
+      score_is = score_is ∙ sym (ap (λ (t : RunTrail). t.score) trail_is);
+      plan_is = plan_is ∙ is.plan_is ∙ ap (final_plan job run) (sym turns);
+      totals_are = totals_are ∙ is.totals_are ∙ ap (totals_of_plan job.problem) (sym plan_is);
+    }

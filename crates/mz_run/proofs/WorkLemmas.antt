@@ -13,12 +13,13 @@ use Rattle.mz_shelf.proofs.ChainLemmas.{DidAll-nil, DidAll-append, StoppedAt-one
 use Rattle.mz_shelf.proofs.CountLemmas.{KeepsCounts-same, KeepsCounts-fault, OneFault-from, Rose-once, Rose-to}
 use Rattle.mz_project.specs.ReadAs.{IfTold}
 use Rattle.mz_project.specs.Reads.{Outcome, Reads}
-use Rattle.mz_project.specs.Reads.Outcome.{Given}
+use Rattle.mz_project.specs.Reads.Outcome.{Given, Missing, Refused}
 use Rattle.mz_run.specs.declared.job.Job.{Job}
 use Rattle.mz_run.specs.declared.job.Finished.{Finished}
 use Rattle.mz_run.specs.declared.status.Status.{Status}
 use Rattle.mz_run.specs.declared.status.Status.TheVariants.{Done, Words, Input, ShelfFault, Absent, NoMemory}
-use Rattle.mz_run.specs.declared.trail.RunTrail.{RunTrail}
+use Rattle.mz_files.specs.declared.trail.RunTrail.{RunTrail}
+use Rattle.mz_run.specs.declared.counted.Counted.{Counted}
 use Rattle.mz_run.specs.declared.runs.BestRun.{BestRun}
 use Rattle.mz_run.specs.Arguments.{Form, parameter_file, starting_acts}
 use Rattle.mz_run.specs.Acts.{acts_for_best, acts_of, acts_of_runs, acts_of_trails, best_acts, closing_acts, opening_acts, run_acts}
@@ -26,7 +27,7 @@ use Rattle.mz_run.specs.Ending.{Worked, SaysLine, Refuses, status_of, status_of_
 use Rattle.mz_run.specs.Ending.SaysLine.{said, failed, unsaid}
 use Rattle.mz_run.specs.Ending.Stage.{in_opening, in_run, in_closing}
 use Rattle.mz_run.specs.Prepared.{IfStarted, IsPrepared, IsWords, NotPrepared, Prepared}
-use Rattle.mz_run.specs.Program.{IsAnswerTo, IsDoneOrNoMemory, LeavesCounts, NoneRose, RunsJob, RunsProgram, no_reports}
+use Rattle.mz_run.specs.Program.{Completes, IsAcceptedInput, IsAnswerTo, IsDoneOrNoMemory, LeavesCounts, NoneRose, RunsJob, RunsProgram, no_reports}
 use Rattle.mz_run.specs.Project.{InputStopped, Project, asked_of, project_of}
 use Rattle.mz_run.specs.Ran.{IsBestRun, RanFirst, RunsStopped, StopsIn, best_in}
 use Rattle.mz_run.specs.Ran.StopsIn.{between_runs, in_one}
@@ -71,16 +72,21 @@ closing_ends job trails reports old between new (Ok x) whole did h = record { ru
 closing_ends job trails reports old between new (Err (Fault name)) whole did h = record { done = acts_of_runs job trails; acts = closing_acts job trails reports; stage = in_closing trails whole; between = between; whole = did; stopped = h }
 closing_ends job trails reports old between new (Err NoMemoryStop) whole did h = subst (λ (acts : List Act). StoppedBetween acts old new) (sym (last_acts job trails reports whole)) (StoppedBetween-after did h)
 
-best_closing : (job : Job) (trails : List RunTrail) (reports : List ℕ) (kept : BestRun) → IsBestRun job trails kept → closing_acts job trails reports ≡ best_acts job reports (best_in kept) kept.plan
+best_closing : (job : Job) (trails : List RunTrail) (reports : List ℕ) (kept : BestRun) → IsBestRun job trails kept → closing_acts job trails reports ≡ best_acts job trails reports (best_in kept) kept.plan
 best_closing job trails reports kept is =
-    ap (acts_for_best job trails reports) is.best ∙ ap (best_acts job reports (best_in kept)) (sym is.plan_is)
+    ap (acts_for_best job trails reports) is.best ∙ ap (best_acts job trails reports (best_in kept)) (sym is.plan_is)
 
-pub closed : {X : Type 0} (job : Job) (trails : List RunTrail) (reports : List ℕ) (old opened between new : State) (best : Option BestRun) (kept : BestRun) (r : Result X Stop) → DidAll (opening_acts job) old opened → best ≡ Some kept → RanFirst job job.params.reps trails opened between best
-    → Performed (best_acts job reports (best_in kept) kept.plan) between new r → Worked job trails reports old new (status_of r)
-closed job trails reports old opened between new best kept r first is found h =
-    let ran : RanFirst job job.params.reps trails opened between (Some kept) = subst (RanFirst job job.params.reps trails opened between) is found in
+pub closed : {X : Type 0} (job : Job) (trails asked : List RunTrail) (reports : List ℕ) (counted : Counted) (old opened between new : State) (best : Option BestRun) (kept : BestRun) (r : Result X Stop) → DidAll (opening_acts job) old opened → best ≡ Some kept → RanFirst job job.params.reps trails counted opened between best
+    → asked ≡ trails → Performed (best_acts job asked reports (best_in kept) kept.plan) between new r → Worked job trails reports old new (status_of r)
+closed job trails asked reports counted old opened between new best kept r first is found same h =
+    let ran : RanFirst job job.params.reps trails counted opened between (Some kept) = subst (RanFirst job job.params.reps trails counted opened between) is found in
+    let own : Performed (best_acts job trails reports (best_in kept) kept.plan) between new r = subst (λ (ts : List RunTrail). Performed (best_acts job ts reports (best_in kept) kept.plan) between new r) same h in
     closing_ends job trails reports old between new r ran.whole (DidAll-append first ran.acts)
-    (subst (λ (acts : List Act). Performed acts between new r) (sym (best_closing job trails reports kept ran.best)) h)
+    (subst (λ (acts : List Act). Performed acts between new r) (sym (best_closing job trails reports kept ran.best)) own)
+
+-- what the closing needs
+pub best_kept : (job : Job) (trails : List RunTrail) (counted : Counted) (old new : State) (best : Option BestRun) (kept : BestRun) (count : ℕ) → best ≡ Some kept → RanFirst job count trails counted old new best → IsBestRun job trails kept
+best_kept job trails counted old new best kept count is ran = (subst (λ (b : Option BestRun). RanFirst job count trails counted old new b) is ran).best
 
 -- a job that was prepared and worked at is a whole run of the program
 pub runs_whole : (form : Option Form) (chance : ℕ) (old mid new : State) (job : Job) (finished : Finished) → Prepared form chance old mid job → RunsJob job mid new finished → RunsProgram form chance old new finished
@@ -147,6 +153,36 @@ pub completes_accepted : (A : Form → Type 0) (form : Option Form) (chance : �
 completes_accepted A None chance old mid new job finished prepared ran = absurd prepared
 completes_accepted A (Some form) chance old mid new job finished prepared ran =
     λ _ none. completes_job job finished.trails no_reports old mid ran.before new finished.status (prepared_counts form chance old mid job prepared) ran.worked ran.refusal none
+
+-- a project that is given is none of the other outcomes
+abbrev pub IsGivenOutcome : Outcome Project → Type 0
+IsGivenOutcome (Given project) = Unit {0}
+IsGivenOutcome outcome = ⊥
+
+told_at : (o : Option Files) (files : Files) (P : Files → Type 0) → o ≡ Some files → IfSome o P → P files
+told_at o files P is h = subst (λ (x : Option Files). IfSome x P) is h
+
+-- a refused input without a fault that rose
+refused_completes : (form : Form) (old started mid new : State) (s : Status) → DidAll (starting_acts form) old started → InputStopped (asked_of (parameter_file form)) started mid s → Refuses s mid new
+    → IsAcceptedInput form old → NoneRose old new → IsDoneOrNoMemory s
+refused_completes form old started mid new Done start h says accepted none = absurd h
+refused_completes form old started mid new Words start h says accepted none = absurd h
+refused_completes form old started mid new (Input fault) start h says accepted none =
+    let told : started.contents.files ≡ Some accepted.files = ap (λ (c : Contents). c.files) start.contents ∙ accepted.told in
+    let refused : (asked_of (parameter_file form) accepted.files).outcome ≡ Refused fault = told_at started.contents.files accepted.files _ told h.refused in
+    absurd (subst IsGivenOutcome (sym accepted.asked ∙ refused) tt)
+refused_completes form old started mid new (ShelfFault name) start h says accepted none =
+    let one : OneFault old.counts mid.counts = OneFault-from (h.read.counts ∙ start.counts) h.failed.counts in
+    absurd (none.faults (Rose-to old.counts.faults mid.counts.faults new.counts.faults (Rose-once one.faults) (says_keeps _ mid new says).faults))
+refused_completes form old started mid new (Absent name) start h says accepted none =
+    let told : started.contents.files ≡ Some accepted.files = ap (λ (c : Contents). c.files) start.contents ∙ accepted.told in
+    let missing : (asked_of (parameter_file form) accepted.files).outcome ≡ Missing name = told_at started.contents.files accepted.files _ told h.missing in
+    absurd (subst IsGivenOutcome (sym accepted.asked ∙ missing) tt)
+refused_completes form old started mid new NoMemory start h says accepted none = tt
+
+pub completes_refused : (form : Option Form) (old mid new : State) (s : Status) → NotPrepared form old mid s → Refuses s mid new → IfSome form (λ f. Completes f old new s)
+completes_refused None old mid new s h says = tt
+completes_refused (Some form) old mid new s h says = λ accepted none. refused_completes form old h.started mid new s h.start h.stopped says accepted none
 
 -- which ends leave the counts
 ended_counts : (job : Job) (trails : List RunTrail) (reports : List ℕ) (old mid before new : State) (s : Status) → mid.counts ≡ old.counts → Worked job trails reports mid before s → Refuses s before new → LeavesCounts s old new

@@ -10,7 +10,7 @@ use Rattle.mz_shelf.specs.declared.stop.Stop.TheVariants.{Fault, NoMemory as NoM
 use Rattle.mz_run.specs.declared.status.Status.{Status}
 use Rattle.mz_run.specs.declared.status.Status.TheVariants.{Done, ShelfFault, NoMemory}
 use Rattle.mz_run.specs.declared.job.Job.{Job}
-use Rattle.mz_run.specs.declared.trail.RunTrail.{RunTrail}
+use Rattle.mz_files.specs.declared.trail.RunTrail.{RunTrail}
 use Rattle.mz_run.specs.Acts.{opening_acts, run_acts, closing_acts, acts_of_runs, acts_of}
 use Rattle.mz_run.specs.Refusal.{refusal_line}
 

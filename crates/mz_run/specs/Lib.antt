@@ -1,16 +1,13 @@
 pub mod Acts
-pub mod Annealed
+pub mod End
 pub mod Arguments
 pub mod Best
 pub mod Ending
 pub mod Lines
-pub mod OneWorker
 pub mod Prepared
 pub mod Program
 pub mod Project
 pub mod Ran
 pub mod Refusal
 pub mod Run
-pub mod Solution
-pub mod Supported
 pub mod Trail

@@ -6,7 +6,7 @@ use Rattle.mz_num.specs.Places.{list_below}
 use Rattle.mz_model.specs.Parts.{unit_count, zone_count, target_count}
 use Rattle.mz_model.specs.Zones.{free_units}
 use Rattle.mz_run.specs.declared.job.Job.{Job}
-use Rattle.mz_run.specs.declared.trail.RunTrail.{RunTrail}
+use Rattle.mz_files.specs.declared.trail.RunTrail.{RunTrail}
 use Rattle.mz_run.specs.Best.{Best}
 
 -- the random seed, and how many things there are

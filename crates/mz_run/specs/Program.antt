@@ -6,7 +6,7 @@ use Rattle.mz_run.specs.declared.status.Status.{Status}
 use Rattle.mz_run.specs.declared.status.Status.TheVariants.{Done, Input, ShelfFault, Absent, NoMemory}
 use Rattle.mz_run.specs.declared.job.Job.{Job}
 use Rattle.mz_run.specs.declared.job.Finished.{Finished}
-use Rattle.mz_run.specs.declared.trail.RunTrail.{RunTrail}
+use Rattle.mz_files.specs.declared.trail.RunTrail.{RunTrail}
 use Rattle.mz_run.specs.Arguments.{Form, parameter_file, starting_acts}
 use Rattle.mz_run.specs.Ending.{Worked, Refuses}
 use Rattle.mz_run.specs.Prepared.{IfStarted, Prepared, NotPrepared}

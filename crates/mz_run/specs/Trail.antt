@@ -4,7 +4,7 @@ use Rattle.std.specs.List.{All}
 use Rattle.mz_model.specs.Plans.{IsLegalPlan}
 use Rattle.mz_model.specs.Scores.{score_of_plan}
 use Rattle.mz_run.specs.declared.job.Job.{Job}
-use Rattle.mz_run.specs.declared.trail.RunTrail.{RunTrail}
+use Rattle.mz_files.specs.declared.trail.RunTrail.{RunTrail}
 use Rattle.mz_run.specs.Run.{entries_of_run, final_plan, setting_of}
 use Rattle.mz_history.specs.Replay.{IsLegalHistory, replay_of}
 

@@ -1,133 +1,81 @@
-//! A run of annealing, by one worker.
-ghost use Rattle.std.specs.Prelude.{◌≡◌, ◌+◌, ◌<◌, ◌≤◌, [], length, map, IfOk};
+//! A run of annealing, by the workers of a job.
+ghost use Rattle.std.specs.Prelude.{◌≡◌, ◌≤◌, false, IfOk};
 ghost use Rattle.mz_num.specs.Limits.{most_runs};
-ghost use Rattle.mz_model.specs.Zones.{free_units};
-ghost use Rattle.mz_delta.specs.Rooms.{FitsJudged, FitsReading};
-ghost use Rattle.mz_history.specs.Cooling.{AreRulesOf};
+ghost use Rattle.mz_params.specs.ParamFile.{IsAccepted};
 ghost use Rattle.mz_history.specs.Core.{seats_of};
-ghost use Rattle.mz_history.specs.SeatWords.{words_after};
-ghost use Rattle.mz_state.specs.Kept.{IsKept};
-ghost use Rattle.mz_run.specs.Annealed.{IsAnnealed};
-ghost use Rattle.mz_run.specs.OneWorker.{IsOneWorker};
-ghost use Rattle.mz_run.specs.Run.{entries_of_run};
-ghost use Rattle.mz_run.specs.Supported.{IsSupported};
+ghost use Rattle.mz_run.specs.Arguments.{AreWorkers};
+ghost use Rattle.mz_run.specs.End.{IsEnd};
+ghost use Rattle.mz_run.specs.Run.{annealed_plan, anneals};
 
 use crate::job::Job;
-use mz_delta::{Judged, Reading, judge};
-use mz_draw::Drawer;
-use mz_history::{Entry, Rules};
-use mz_model::{Plan, Score};
+use crate::run_end::RunEnd;
+use mz_crew::Gate;
+use mz_delta::totals_of;
+use mz_history::{Entry, start};
+use mz_model::evaluate;
 use mz_num::{Items, NoMemory};
-use mz_state::{Closed, Kept, rules_of};
+use mz_state::{Closed, rules_of};
 use std::alloc::Global;
+use std::sync::Wait;
+use std::thread::Threads;
 
-/// The seat of the one worker.
-const SEAT: u8 = 0;
-
-/// What a run leaves: the turns of its history, its last plan, and that plan's score.
-#[derive(Drop)]
-pub(crate) struct Annealed {
-    pub(crate) turns: Items<u8>,
-    pub(crate) plan: Plan,
-    pub(crate) score: Score,
-}
-
-/// Anneals one run: each entry is a turn of the one worker.
-pub(crate) fn anneal(alloc: Global, job: &Job, run: u32) -> Result<Annealed, NoMemory>
-    requires supported { IsSupported job.now.params }
+/// Anneals one run by the job's workers at once. A run that has no entries ends with the plan that it starts from.
+pub(crate) fn anneal<R: Threads + Wait + Sync, G: Gate + Sync>(
+    rt: &R,
+    alloc: Global,
+    job: &Job,
+    run: u32,
+    gate: &G,
+) -> Result<RunEnd, NoMemory>
+    requires accepted { IsAccepted job.now.params }
     requires few_runs { run ≤ most_runs }
-    requires some_worker { 1 ≤ job.now.workers }
-    ensures { IfOk result (IsAnnealed job.now run) }
+    requires workers { AreWorkers job.now.workers }
+    ensures { IfOk result (IsEnd job.now run (annealed_plan job.now run)) }
 {
-    let rules = rules_of(alloc, &job.problem, &job.params, job.seed, run)?;
-    let mut kept = Kept::open(alloc, &job.problem, &rules, job.seed, run, 1)?;
-    decide_all(alloc, job, &rules, run, &mut kept)?;
+    if !anneals(job) {
+        return at_rest(alloc, job, run);
+    }
+    let problem = &job.problem;
+    let rules = rules_of(alloc, problem, &job.params, job.seed, run)?;
+    let closed = mz_crew::anneal(rt, alloc, problem, &rules, job.seed, run, job.workers, gate)?;
     let Closed {
         journal,
         plan,
+        totals,
         score,
-        ..
-    } = kept.finish();
+    } = closed;
     let turns = turns_of(alloc, &journal)?;
-    Ok(Annealed { turns, plan, score })
+    Ok(RunEnd {
+        turns,
+        plan,
+        totals,
+        score,
+    })
 }
 
-/// Decides as many proposals as the run has entries.
-fn decide_all(
-    alloc: Global,
-    job: &Job,
-    rules: &Rules,
-    run: u32,
-    kept: &mut Kept,
-) -> Result<(), NoMemory>
+/// Whether the runs of a job have entries.
+fn anneals(job: &Job) -> bool
+    ensures { result ≡ anneals job.now }
+{
+    (job.params.mode == 1 || job.params.mode == 6) && !job.problem.free().is_empty()
+}
+
+/// A run without entries: its last plan is its first.
+fn at_rest(alloc: Global, job: &Job, run: u32) -> Result<RunEnd, NoMemory>
+    requires accepted { IsAccepted job.now.params }
     requires few_runs { run ≤ most_runs }
-    requires rules { AreRulesOf job.now.problem job.now.params job.now.seed run rules.now }
-    requires empty { kept.old.journal ≡ [] }
-    requires one { IsOneWorker job.now run kept.old }
-    ensures one { IfOk result (λ _. IsOneWorker job.now run kept.new) }
-    ensures all { IfOk result (λ _. length kept.new.journal ≡ entries_of_run job.now) }
+    requires rests { anneals job.now ≡ false }
+    ensures { IfOk result (IsEnd job.now run (annealed_plan job.now run)) }
 {
-    let mut reading = Reading::room(alloc, &job.problem)?;
-    let mut judged = Judged::room(alloc, &job.problem)?;
-    let mut drawer = Drawer::new(job.seed, run, SEAT);
-    let entries = entries_of(job);
-    while kept.length() < entries {
-        decide_next(
-            job,
-            rules,
-            run,
-            &mut drawer,
-            kept,
-            &mut reading,
-            &mut judged,
-        );
-    }
-    Ok(())
-}
-
-/// Looks at the unit of the worker's next draw, judges its move, and decides it.
-fn decide_next(
-    job: &Job,
-    rules: &Rules,
-    run: u32,
-    drawer: &mut Drawer,
-    kept: &mut Kept,
-    reading: &mut Reading,
-    judged: &mut Judged,
-)
-    requires rules { AreRulesOf job.now.problem job.now.params job.now.seed run rules.now }
-    requires one { IsOneWorker job.now run kept.old }
-    requires kept { IsKept kept.old }
-    requires words { drawer.old ≡ words_after job.now.seed run (seats_of kept.old.journal) 0 }
-    requires not_full { length kept.old.journal < job.now.params.iterations }
-    requires some_free { 0 < length (free_units job.now.problem) }
-    requires reading { FitsReading job.now.problem reading.old }
-    requires judged { FitsJudged job.now.problem judged.now }
-    ensures one { IsOneWorker job.now run kept.new }
-    ensures words { drawer.new ≡ words_after job.now.seed run (seats_of kept.new.journal) 0 }
-    ensures one_more { length kept.new.journal ≡ length kept.old.journal + 1 }
-    ensures reading { FitsReading job.now.problem reading.new }
-    ensures judged { FitsJudged job.now.problem judged.exit.now }
-{
-    let problem = &job.problem;
-    let draw = drawer.next(problem.free(), problem.counts());
-    kept.look(problem, SEAT, draw.unit, reading);
-    judge(problem, reading, draw, judged);
-    kept.apply(problem, rules, judged);
-}
-
-/// How many entries each run has.
-fn entries_of(job: &Job) -> u32
-    ensures entries { result ≡ entries_of_run job.now }
-    ensures limit { result ≤ job.now.params.iterations }
-    ensures some_free { 0 < result → 0 < length (free_units job.now.problem) }
-{
-    let anneals = job.params.mode == 1 || job.params.mode == 6;
-    if anneals && !job.problem.free().is_empty() {
-        job.params.iterations
-    } else {
-        0
-    }
+    let plan = start(alloc, &job.problem, job.params.prop, job.seed, run)?;
+    let totals = totals_of(alloc, &job.problem, &plan)?;
+    let score = evaluate(&job.problem, &plan);
+    Ok(RunEnd {
+        turns: Items::new(Vec::new(alloc)),
+        plan,
+        totals,
+        score,
+    })
 }
 
 /// The seat of each entry.

@@ -1,6 +1,6 @@
 //! What the program has to do, and what comes back of it.
 use crate::status::Status;
-use crate::trail::RunTrail;
+use mz_files::RunTrail;
 use mz_model::Problem;
 use mz_num::Items;
 use mz_params::Params;

@@ -7,7 +7,7 @@ ghost use Rattle.mz_run.specs.Ran.{best_in};
 
 use crate::job::Job;
 use crate::runs::BestRun;
-use crate::trail::RunTrail;
+use mz_files::RunTrail;
 use mz_num::{NoMemory, push_bytes, push_number, write_ten4};
 use std::alloc::Global;
 

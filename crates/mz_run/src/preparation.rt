@@ -1,19 +1,14 @@
 //! From the words to a job.
 ghost use Rattle.std.specs.Prelude.{MatchResult, IfOk};
 ghost use Rattle.mz_params.specs.ParamFile.{IsAccepted};
-ghost use Rattle.mz_project.specs.ReadAs.{TakenAs};
-ghost use Rattle.mz_run.specs.Arguments.{form_of};
+ghost use Rattle.mz_run.specs.Arguments.{AreWorkers, form_of};
 ghost use Rattle.mz_run.specs.Arguments.Form.{File};
 ghost use Rattle.mz_run.specs.Prepared.{IsInputStopped, IsPrepared, NotPrepared, Prepared};
-ghost use Rattle.mz_run.specs.Project.{built_params};
-ghost use Rattle.mz_run.specs.Supported.{IsSupported};
 
 use crate::arguments::{Form, read_words};
 use crate::job::Job;
 use crate::status::Status;
-use crate::supported::unbuilt_key;
-use mz_params::{ParamFault, Params};
-use mz_project::{InputFault, ReadFault, read_params, read_project};
+use mz_project::{read_params, read_project};
 use mz_shelf::Shelf;
 use std::alloc::Global;
 
@@ -29,7 +24,7 @@ pub fn prepare<S: Shelf>(
         (λ job. Prepared (form_of words.now) chance (S.state shelf.old) (S.state shelf.new) job)
         (λ status. NotPrepared (form_of words.now) (S.state shelf.old) (S.state shelf.new) status) }
     ensures accepted { IfOk result (λ job. IsAccepted job.params) }
-    ensures supported { IfOk result (λ job. IsSupported job.params) }
+    ensures workers { IfOk result (λ job. AreWorkers job.workers) }
 {
     match read_words(words) {
         Form::Unknown => Err(Status::Words),
@@ -45,13 +40,14 @@ fn prepare_file<S: Shelf>(
     workers: u8,
     chance: u64,
 ) -> Result<Job, Status>
+    requires { AreWorkers workers }
     ensures ends { MatchResult result
         (λ job. IsPrepared (File file.now workers) chance (S.state shelf.old) (S.state shelf.new) job)
         (λ status. IsInputStopped (File file.now workers) (S.state shelf.old) (S.state shelf.new) status) }
     ensures accepted { IfOk result (λ job. IsAccepted job.params) }
-    ensures supported { IfOk result (λ job. IsSupported job.params) }
+    ensures workers { IfOk result (λ job. AreWorkers job.workers) }
 {
-    let params = supported(read_params(alloc, shelf, file)?)?;
+    let params = read_params(alloc, shelf, file)?;
     let problem = read_project(alloc, shelf, &params)?;
     let seed = params.seed.map_or(chance, u64::from);
     Ok(Job {
@@ -61,18 +57,4 @@ fn prepare_file<S: Shelf>(
         seed,
         generated: None,
     })
-}
-
-/// The parameters, unless one of them asks for what the program doesn't do yet.
-#[tactic(auto, unfolding(crate::specs::Project::built_params))]
-fn supported(params: Params) -> Result<Params, ReadFault>
-    requires { IsAccepted params }
-    ensures taken { TakenAs (built_params params) result }
-    ensures accepted { IfOk result IsAccepted }
-    ensures supported { IfOk result IsSupported }
-{
-    match unbuilt_key(&params) {
-        Some(key) => Err(ReadFault::Input(InputFault::Param(ParamFault::LeftOut(key)))),
-        None => Ok(params),
-    }
 }

@@ -1,11 +1,10 @@
 //! The whole run of the program, from its words to its last line.
 ghost use Rattle.std.specs.Prelude.{◌≡◌, ◌≤◌, ◌↔◌, [], length, IfSome, None};
 ghost use Rattle.mz_params.specs.ParamFile.{IsAccepted};
-ghost use Rattle.mz_run.specs.Arguments.{form_of};
+ghost use Rattle.mz_run.specs.Arguments.{AreWorkers, form_of};
 ghost use Rattle.mz_run.specs.Ending.{Worked, status_of};
 ghost use Rattle.mz_run.specs.Prepared.{IsWords};
 ghost use Rattle.mz_run.specs.Program.{AnswersInput, Completes, LeavesCounts, RunsJob, RunsProgram, no_reports};
-ghost use Rattle.mz_run.specs.Supported.{IsSupported};
 ghost use Rattle.mz_run.specs.Trail.{AreTrails};
 
 use crate::closing::close;
@@ -13,16 +12,27 @@ use crate::job::{Finished, Job};
 use crate::opening::open;
 use crate::preparation::prepare;
 use crate::refusal::refuse;
-use crate::runs::all_runs;
+use crate::runs::{AllRuns, all_runs};
 use crate::status::Status;
-use crate::trail::RunTrail;
+use mz_crew::Gate;
+use mz_files::RunTrail;
 use mz_num::Items;
 use mz_shelf::{Shelf, Stop};
 use std::alloc::Global;
+use std::sync::Wait;
+use std::thread::Threads;
 
 /// Does all that the program does: reads the words and the project, runs it, and writes and says what came of
-/// it. The first fault ends it; a fault other than want of memory is said.
-pub fn marzone<S: Shelf>(alloc: Global, words: &[String], chance: u64, shelf: &mut S) -> Finished
+/// it. The first fault ends it; a fault other than want of memory is said. The runs are annealed by workers at once,
+/// which pass the gate between their steps.
+pub fn marzone<R: Threads + Wait + Sync, S: Shelf, G: Gate + Sync>(
+    rt: &R,
+    alloc: Global,
+    words: &[String],
+    chance: u64,
+    shelf: &mut S,
+    gate: &G,
+) -> Finished
     ensures runs { RunsProgram (form_of words.now) chance (S.state shelf.old) (S.state shelf.new) result }
     ensures words { IsWords result.status ↔ (form_of words.now ≡ None) }
     ensures answers { IfSome (form_of words.now) (λ form. AnswersInput form (S.state shelf.old) result.status) }
@@ -31,7 +41,7 @@ pub fn marzone<S: Shelf>(alloc: Global, words: &[String], chance: u64, shelf: &m
     ensures counts { LeavesCounts result.status (S.state shelf.old) (S.state shelf.new) }
 {
     match prepare(alloc, words, chance, shelf) {
-        Ok(job) => run_job(alloc, shelf, job),
+        Ok(job) => run_job(rt, alloc, shelf, gate, job),
         Err(status) => {
             refuse(alloc, shelf, &status);
             Finished {
@@ -43,14 +53,19 @@ pub fn marzone<S: Shelf>(alloc: Global, words: &[String], chance: u64, shelf: &m
     }
 }
 
-fn run_job<S: Shelf>(alloc: Global, shelf: &mut S, job: Job) -> Finished
+fn run_job<R: Threads + Wait + Sync, S: Shelf, G: Gate + Sync>(
+    rt: &R,
+    alloc: Global,
+    shelf: &mut S,
+    gate: &G,
+    job: Job,
+) -> Finished
     requires accepted { IsAccepted job.params }
-    requires supported { IsSupported job.params }
-    requires some_worker { 1 ≤ job.workers }
+    requires workers { AreWorkers job.workers }
     ensures { RunsJob job (S.state shelf.old) (S.state shelf.new) result }
 {
     let mut trails = Vec::new(alloc);
-    let status = status_of_work(work(alloc, shelf, &job, &mut trails));
+    let status = status_of_work(work(rt, alloc, shelf, gate, &job, &mut trails));
     refuse(alloc, shelf, &status);
     Finished {
         status,
@@ -70,16 +85,17 @@ fn status_of_work(worked: Result<(), Stop>) -> Status
 }
 
 /// The acts of a job, in order.
-fn work<S: Shelf>(
+fn work<R: Threads + Wait + Sync, S: Shelf, G: Gate + Sync>(
+    rt: &R,
     alloc: Global,
     shelf: &mut S,
+    gate: &G,
     job: &Job,
     trails: &mut Vec<RunTrail>,
 ) -> Result<(), Stop>
     // A job that the program can do, of which no run was done.
     requires accepted { IsAccepted job.now.params }
-    requires supported { IsSupported job.now.params }
-    requires some_worker { 1 ≤ job.now.workers }
+    requires workers { AreWorkers job.now.workers }
     requires fresh { trails.old.items ≡ [] }
     // What was done, and the trails of it.
     ensures worked { Worked job.now trails.new.items no_reports
@@ -88,8 +104,9 @@ fn work<S: Shelf>(
     ensures few { length trails.new.items ≤ job.now.params.reps }
 {
     open(alloc, shelf, job)?;
-    match all_runs(alloc, shelf, job, trails)? {
-        Some(best) => close(alloc, shelf, job, &best, &[]),
+    let AllRuns { best, counted } = all_runs(rt, alloc, shelf, gate, job, trails)?;
+    match best {
+        Some(best) => close(alloc, shelf, job, trails, &counted, &best, &[]),
         None => Ok(()),
     }
 }

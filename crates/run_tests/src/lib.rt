@@ -8,6 +8,8 @@ mod input;
 #[cfg(test)]
 mod left;
 #[cfg(test)]
+mod outputs;
+#[cfg(test)]
 mod parameters;
 #[cfg(test)]
 mod plain;

@@ -1,10 +1,18 @@
 //! The plain project of three units, run whole over shelves in memory.
 use crate::left::{Left, left_by, left_on, shelf_with};
+use mz_crew::OpenGate;
 use mz_num::NoMemory;
 use mz_run::{Finished, InputFault, Job, Status, code, marzone, prepare};
 use mz_shelf::{MemShelf, SafeShelf, Shelf};
 use std::alloc::{AllocError, Global};
+use std::sync::Wait;
 use std::test::Fail;
+use std::thread::Threads;
+
+/// What a run of the program takes of the machine.
+pub(crate) trait Host: AllocGlobal + Threads + Wait + Sync {}
+
+impl<R: AllocGlobal + Threads + Wait + Sync> Host for R {}
 
 pub(crate) const INPUT: &[u8] = b"PUNAME pu.dat
 RANDSEED 7
@@ -106,18 +114,18 @@ fn seen(alloc: Global, finished: &Finished) -> Result<Outcome, AllocError> {
 }
 
 pub(crate) fn run(
-    alloc: Global,
+    rt: &impl Host,
     words: &[String],
     shelf: &mut impl Shelf,
 ) -> Result<Outcome, AllocError> {
-    let finished = finished(alloc, words, shelf);
-    seen(alloc, &finished)
+    let finished = finished(rt, words, shelf);
+    seen(rt.alloc(), &finished)
 }
 
 // Without a clause a run and a job are any to the tests' proofs.
 
-fn finished(alloc: Global, words: &[String], shelf: &mut impl Shelf) -> Finished {
-    marzone(alloc, words, 0, shelf)
+fn finished(rt: &impl Host, words: &[String], shelf: &mut impl Shelf) -> Finished {
+    marzone(rt, rt.alloc(), words, 0, shelf, &OpenGate)
 }
 
 fn job_of(alloc: Global, words: &[String], shelf: &mut MemShelf) -> Result<Job, Status> {
@@ -125,19 +133,20 @@ fn job_of(alloc: Global, words: &[String], shelf: &mut MemShelf) -> Result<Job, 
 }
 
 /// The run of the project by one worker.
-pub(crate) fn run_plain(alloc: Global, shelf: &mut impl Shelf) -> Result<Outcome, AllocError> {
-    run(alloc, &words(alloc, "input.dat", "1")?, shelf)
+pub(crate) fn run_plain(rt: &impl Host, shelf: &mut impl Shelf) -> Result<Outcome, AllocError> {
+    run(rt, &words(rt.alloc(), "input.dat", "1")?, shelf)
 }
 
 /// What a run of the project leaves where these calls fail.
-fn left_behind(alloc: Global, fails: &[u64], cut: usize) -> Result<Left, Fail> {
+fn left_behind(rt: &impl Host, fails: &[u64], cut: usize) -> Result<Left, Fail> {
+    let alloc = rt.alloc();
     let mut shelf = project(alloc, fails, cut)?;
-    left_on(alloc, &mut shelf, "output_best.csv")
+    left_on(rt, &mut shelf, "output_best.csv")
 }
 
 #[test]
 fn the_plain_project_is_run(rt: HostRuntime) -> Result<(), Fail> {
-    let left = left_behind(rt.alloc(), &[], 0)?;
+    let left = left_behind(&rt, &[], 0)?;
     assert_eq!(rt; left.outcome.code, 0);
     assert!(rt; left.outcome.has_job);
     assert!(rt; left.outcome.is_plain);
@@ -163,7 +172,7 @@ shortfall,0.0000
 
 #[test]
 fn a_start_that_is_not_given_is_found(rt: HostRuntime) -> Result<(), Fail> {
-    let left = left_by(rt.alloc(), &[("input.dat", FOUND), ("pu.dat", UNITS)])?;
+    let left = left_by(&rt, &[("input.dat", FOUND), ("pu.dat", UNITS)])?;
     assert_eq!(rt; left.outcome.code, 0);
     assert!(rt; left.has_best(FOUND_BEST));
     Ok(())
@@ -188,9 +197,10 @@ fn put_project(alloc: Global, shelf: &mut SafeShelf) -> Result<(), Fail> {
 }
 
 /// Whether a run over such a shelf ends well, and says and writes what it is to.
-fn is_run_safely(alloc: Global) -> Result<bool, Fail> {
+fn is_run_safely(rt: &impl Host) -> Result<bool, Fail> {
+    let alloc = rt.alloc();
     let mut shelf = safe_project(alloc)?;
-    let code = run_plain(alloc, &mut shelf)?.code;
+    let code = run_plain(rt, &mut shelf)?.code;
     Ok(code == 0 && is_whole(&shelf))
 }
 
@@ -204,13 +214,13 @@ fn is_whole(shelf: &SafeShelf) -> bool {
 
 #[test]
 fn a_shelf_that_never_fails_gives_the_same(rt: HostRuntime) -> Result<(), Fail> {
-    assert!(rt; is_run_safely(rt.alloc())?);
+    assert!(rt; is_run_safely(&rt)?);
     Ok(())
 }
 
 #[test]
 fn a_missing_unit_file_is_absent(rt: HostRuntime) -> Result<(), Fail> {
-    let left = left_by(rt.alloc(), &[("input.dat", INPUT)])?;
+    let left = left_by(&rt, &[("input.dat", INPUT)])?;
     assert_eq!(rt; left.outcome.code, 4);
     assert_eq!(rt; left.outcome.status.as_str(), "absent pu.dat");
     assert_eq!(rt; left.outcome.trails, 0);
@@ -220,9 +230,9 @@ fn a_missing_unit_file_is_absent(rt: HostRuntime) -> Result<(), Fail> {
 
 /// Whether a run whose call of this number fails bears this status, with so many trails, whatever the
 /// write leaves.
-fn fails_at(alloc: Global, call: u64, status: &str, trails: usize) -> Result<bool, Fail> {
-    let whole = left_behind(alloc, &[call], 0)?.outcome;
-    let cut = left_behind(alloc, &[call], 4)?.outcome;
+fn fails_at(rt: &impl Host, call: u64, status: &str, trails: usize) -> Result<bool, Fail> {
+    let whole = left_behind(rt, &[call], 0)?.outcome;
+    let cut = left_behind(rt, &[call], 4)?.outcome;
     Ok(is_fault(&whole, status, trails) && is_fault(&cut, status, trails))
 }
 
@@ -232,44 +242,45 @@ fn is_fault(outcome: &Outcome, status: &str, trails: usize) -> bool {
 
 #[test]
 fn each_failing_call_has_its_name_and_trails(rt: HostRuntime) -> Result<(), Fail> {
-    assert!(rt; fails_at(rt.alloc(), 0, "fault input.dat", 0)?);
-    assert!(rt; fails_at(rt.alloc(), 1, "fault pu.dat", 0)?);
-    assert!(rt; fails_at(rt.alloc(), 2, "fault -", 0)?);
-    assert!(rt; fails_at(rt.alloc(), 3, "fault -", 1)?);
-    assert!(rt; fails_at(rt.alloc(), 4, "fault output_best.csv", 1)?);
-    assert!(rt; fails_at(rt.alloc(), 5, "fault -", 1)?);
+    assert!(rt; fails_at(&rt, 0, "fault input.dat", 0)?);
+    assert!(rt; fails_at(&rt, 1, "fault pu.dat", 0)?);
+    assert!(rt; fails_at(&rt, 2, "fault -", 0)?);
+    assert!(rt; fails_at(&rt, 3, "fault -", 1)?);
+    assert!(rt; fails_at(&rt, 4, "fault output_best.csv", 1)?);
+    assert!(rt; fails_at(&rt, 5, "fault -", 1)?);
     Ok(())
 }
 
 /// Whether a write of the best file that fails leaves these bytes.
-fn leaves_cut(alloc: Global, cut: usize, best: &[u8]) -> Result<bool, Fail> {
-    let left = left_behind(alloc, &[4], cut)?;
+fn leaves_cut(rt: &impl Host, cut: usize, best: &[u8]) -> Result<bool, Fail> {
+    let left = left_behind(rt, &[4], cut)?;
     Ok(left.has_best(best) && left.has_said(SAID_TO_THE_BEST_FILE))
 }
 
 #[test]
 fn a_failing_write_leaves_its_cut(rt: HostRuntime) -> Result<(), Fail> {
-    assert!(rt; leaves_cut(rt.alloc(), 0, b"")?);
-    assert!(rt; leaves_cut(rt.alloc(), 4, b"plan")?);
+    assert!(rt; leaves_cut(&rt, 0, b"")?);
+    assert!(rt; leaves_cut(&rt, 4, b"plan")?);
     Ok(())
 }
 
 /// How many calls of a run failed, of which one was to fail.
-fn faults_of(alloc: Global, call: u64) -> Result<u64, Fail> {
+fn faults_of(rt: &impl Host, call: u64) -> Result<u64, Fail> {
+    let alloc = rt.alloc();
     let mut shelf = project(alloc, &[call], 0)?;
-    let _ = run_plain(alloc, &mut shelf)?;
+    let _ = run_plain(rt, &mut shelf)?;
     Ok(shelf.faults())
 }
 
 #[test]
 fn a_failing_write_is_one_fault(rt: HostRuntime) -> Result<(), Fail> {
-    assert_eq!(rt; faults_of(rt.alloc(), 4)?, 1);
+    assert_eq!(rt; faults_of(&rt, 4)?, 1);
     Ok(())
 }
 
 #[test]
 fn a_run_keeps_its_turns_where_its_best_file_fails(rt: HostRuntime) -> Result<(), Fail> {
-    let left = left_behind(rt.alloc(), &[4], 4)?;
+    let left = left_behind(&rt, &[4], 4)?;
     assert_eq!(rt; left.outcome.code, 3);
     assert!(rt; left.outcome.is_plain);
     Ok(())
@@ -277,7 +288,7 @@ fn a_run_keeps_its_turns_where_its_best_file_fails(rt: HostRuntime) -> Result<()
 
 #[test]
 fn a_failing_say_leaves_its_cut(rt: HostRuntime) -> Result<(), Fail> {
-    let left = left_behind(rt.alloc(), &[2], 4)?;
+    let left = left_behind(&rt, &[2], 4)?;
     assert!(rt; left.has_said(b"seedrefused: fault: -\n"));
     assert!(rt; left.best.is_none());
     Ok(())
@@ -285,28 +296,29 @@ fn a_failing_say_leaves_its_cut(rt: HostRuntime) -> Result<(), Fail> {
 
 #[test]
 fn the_best_file_stands_before_the_last_line(rt: HostRuntime) -> Result<(), Fail> {
-    let left = left_behind(rt.alloc(), &[5], 4)?;
+    let left = left_behind(&rt, &[5], 4)?;
     assert!(rt; left.has_best(BEST));
     Ok(())
 }
 
 /// What is said of a run of other words whose first call fails.
-fn said_of_words(alloc: Global) -> Result<Vec<u8>, Fail> {
+fn said_of_words(rt: &impl Host) -> Result<Vec<u8>, Fail> {
+    let alloc = rt.alloc();
     let mut shelf = project(alloc, &[0], 4)?;
-    let _ = run(alloc, &words(alloc, "gen", "1")?, &mut shelf)?;
+    let _ = run(rt, &words(alloc, "gen", "1")?, &mut shelf)?;
     Ok(Vec::from_slice(alloc, shelf.said())?)
 }
 
 #[test]
 fn a_refusal_of_words_may_fail_itself(rt: HostRuntime) -> Result<(), Fail> {
-    let said = said_of_words(rt.alloc())?;
+    let said = said_of_words(&rt)?;
     assert!(rt; said.as_slice() == b"refu".as_slice());
     Ok(())
 }
 
 #[test]
 fn a_refusal_of_a_fault_may_fail_itself(rt: HostRuntime) -> Result<(), Fail> {
-    let left = left_behind(rt.alloc(), &[2, 3], 4)?;
+    let left = left_behind(&rt, &[2, 3], 4)?;
     assert_eq!(rt; left.outcome.status.as_str(), "fault -");
     assert!(rt; left.has_said(b"seedrefu"));
     Ok(())

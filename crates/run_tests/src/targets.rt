@@ -1,5 +1,6 @@
 //! Projects with targets and boundaries, run whole over shelves in memory.
 use crate::left::{Left, left_on, put_files, shelf_with};
+use crate::plain::Host;
 use mz_shelf::MemShelf;
 use std::alloc::Global;
 use std::test::Fail;
@@ -34,10 +35,11 @@ const FILES: [(&str, &[u8]); 4] = [
 
 /// What a run of the project leaves, with further lines of its parameter file, and with these files in
 /// the place of its own.
-fn project(alloc: Global, lines: &str, files: &[(&str, &[u8])]) -> Result<Left, Fail> {
+fn project(rt: &impl Host, lines: &str, files: &[(&str, &[u8])]) -> Result<Left, Fail> {
+    let alloc = rt.alloc();
     let mut shelf = shelf_with(alloc, Vec::new(alloc), 0, &FILES)?;
     fill(alloc, &mut shelf, lines, files)?;
-    left_on(alloc, &mut shelf, "output_best.csv")
+    left_on(rt, &mut shelf, "output_best.csv")
 }
 
 fn fill(
@@ -59,20 +61,25 @@ fn put_input(alloc: Global, shelf: &mut MemShelf, lines: &str) -> Result<(), Fai
 }
 
 /// Whether a good run of the project leaves this file of the best run.
-fn has_best(alloc: Global, lines: &str, files: &[(&str, &[u8])], best: &str) -> Result<bool, Fail> {
-    let left = project(alloc, lines, files)?;
+fn has_best(
+    rt: &impl Host,
+    lines: &str,
+    files: &[(&str, &[u8])],
+    best: &str,
+) -> Result<bool, Fail> {
+    let left = project(rt, lines, files)?;
     Ok(left.outcome.code == 0 && left.has_best(best.as_bytes()))
 }
 
 /// Whether a run of the project ends with this exit status, and with this text said.
 fn says(
-    alloc: Global,
+    rt: &impl Host,
     lines: &str,
     files: &[(&str, &[u8])],
     code: u8,
     said: &str,
 ) -> Result<bool, Fail> {
-    let left = project(alloc, lines, files)?;
+    let left = project(rt, lines, files)?;
     Ok(left.outcome.code == code && left.has_said(said.as_bytes()))
 }
 
@@ -95,8 +102,8 @@ best 1 score 60.0000
 
 #[test]
 fn what_a_plan_misses_is_scored(rt: HostRuntime) -> Result<(), Fail> {
-    assert!(rt; has_best(rt.alloc(), "", &[], MISSES)?);
-    assert!(rt; says(rt.alloc(), "", &[], 0, MISSES_SAID)?);
+    assert!(rt; has_best(&rt, "", &[], MISSES)?);
+    assert!(rt; says(&rt, "", &[], 0, MISSES_SAID)?);
     Ok(())
 }
 
@@ -121,8 +128,8 @@ best 1 score 37.0000
 fn locked_units_are_scored_with_their_boundaries(rt: HostRuntime) -> Result<(), Fail> {
     let locks = ("lock.dat", b"puid,zoneid\n1,1\n2,1\n3,2\n".as_slice());
     let lines = "PULOCKNAME lock.dat\n";
-    assert!(rt; has_best(rt.alloc(), lines, &[locks], LOCKED)?);
-    assert!(rt; says(rt.alloc(), lines, &[locks], 0, LOCKED_SAID)?);
+    assert!(rt; has_best(&rt, lines, &[locks], LOCKED)?);
+    assert!(rt; says(&rt, lines, &[locks], 0, LOCKED_SAID)?);
     Ok(())
 }
 
@@ -142,7 +149,7 @@ fn boundaries_between_zones_are_scored(rt: HostRuntime) -> Result<(), Fail> {
     let locks = ("lock.dat", b"puid,zoneid\n1,2\n2,1\n3,1\n".as_slice());
     let rates = ("rates.dat", b"zoneid1,zoneid2,cost\n1,2,0.5\n".as_slice());
     let lines = "PULOCKNAME lock.dat\nZONEBOUNDCOSTNAME rates.dat\n";
-    assert!(rt; has_best(rt.alloc(), lines, &[locks, rates], WITH_RATES)?);
+    assert!(rt; has_best(&rt, lines, &[locks, rates], WITH_RATES)?);
     Ok(())
 }
 
@@ -164,13 +171,14 @@ fn a_share_of_the_total_may_be_the_greater_target(rt: HostRuntime) -> Result<(),
         ("feat.dat", b"id,target,prop,spf\n1,4,0.5,2\n".as_slice()),
         ("bound.dat", b"id1,id2,boundary\n".as_slice()),
     ];
-    assert!(rt; has_best(rt.alloc(), "PULOCKNAME lock.dat\n", &files, WITH_SHARES)?);
+    assert!(rt; has_best(&rt, "PULOCKNAME lock.dat\n", &files, WITH_SHARES)?);
     Ok(())
 }
 
 /// Whether the project is refused with this text.
-fn refuses(alloc: Global, lines: &str, files: &[(&str, &[u8])], said: &str) -> Result<bool, Fail> {
-    says(alloc, lines, files, 2, said)
+fn refuses(rt: &impl Host, lines: &str, files: &[(&str, &[u8])], said: &str) -> Result<bool, Fail> {
+    let alloc = rt.alloc();
+    says(rt, lines, files, 2, said)
 }
 
 #[test]
@@ -179,21 +187,21 @@ fn a_lock_outside_its_zones_is_refused(rt: HostRuntime) -> Result<(), Fail> {
     let locks = ("l", b"puid,zoneid\n1,2\n".as_slice());
     let lines = "PUZONENAME s\nPULOCKNAME l\n";
     let said = "refused: pulock: line 2 unit 1 is locked outside its zones\n";
-    assert!(rt; refuses(rt.alloc(), lines, &[sets, locks], said)?);
+    assert!(rt; refuses(&rt, lines, &[sets, locks], said)?);
     Ok(())
 }
 
 #[test]
 fn a_cut_amount_file_is_refused(rt: HostRuntime) -> Result<(), Fail> {
     let cut = ("amounts.dat", b"species,pu,amount\n1,1,2\n1,2".as_slice());
-    assert!(rt; refuses(rt.alloc(), "", &[cut], "refused: amounts: line 3 uneven\n")?);
+    assert!(rt; refuses(&rt, "", &[cut], "refused: amounts: line 3 uneven\n")?);
     Ok(())
 }
 
 #[test]
 fn an_empty_amount_file_is_refused(rt: HostRuntime) -> Result<(), Fail> {
     let empty = ("amounts.dat", b"".as_slice());
-    assert!(rt; refuses(rt.alloc(), "", &[empty], "refused: amounts: no header\n")?);
+    assert!(rt; refuses(&rt, "", &[empty], "refused: amounts: no header\n")?);
     Ok(())
 }
 
@@ -201,7 +209,7 @@ fn an_empty_amount_file_is_refused(rt: HostRuntime) -> Result<(), Fail> {
 fn a_repeated_zone_boundary_cost_is_refused(rt: HostRuntime) -> Result<(), Fail> {
     let costs = ("s", b"zoneid1,zoneid2,cost\n1,2,0.5\n2,1,0.6\n".as_slice());
     let said = "refused: zoneboundcost: line 3 repeated\n";
-    assert!(rt; refuses(rt.alloc(), "ZONEBOUNDCOSTNAME s\n", &[costs], said)?);
+    assert!(rt; refuses(&rt, "ZONEBOUNDCOSTNAME s\n", &[costs], said)?);
     Ok(())
 }
 
@@ -212,7 +220,7 @@ fn a_type_of_zone_target_is_left_out(rt: HostRuntime) -> Result<(), Fail> {
         b"zoneid,featureid,target,targettype\n2,1,4,4\n".as_slice(),
     );
     let said = "refused: zonetarget: line 2 left out targettype\n";
-    assert!(rt; refuses(rt.alloc(), "ZONETARGETNAME s\n", &[targets], said)?);
+    assert!(rt; refuses(&rt, "ZONETARGETNAME s\n", &[targets], said)?);
     Ok(())
 }
 
@@ -221,6 +229,6 @@ fn a_row_that_weighs_too_much_is_refused(rt: HostRuntime) -> Result<(), Fail> {
     let features = ("feat.dat", b"id,target,spf\n1,4,1000000000000\n".as_slice());
     let units = ("pu.dat", b"id,cost\n1,40\n2,70\n3,120\n".as_slice());
     let said = "refused: limit: weight of feature 1\n";
-    assert!(rt; refuses(rt.alloc(), "", &[features, units], said)?);
+    assert!(rt; refuses(&rt, "", &[features, units], said)?);
     Ok(())
 }

@@ -1,16 +1,12 @@
 use Rattle.std.proofs.lemmas.Result.{err_from_is_err_and}
-use Rattle.mz_shelf.proofs.PerformedLemmas.{stopped_first, stopped_here, performed_later}
+use Rattle.mz_run.proofs.ClosingLemmas.{best_goes_on, best_stops}
+use Rattle.mz_run.specs.Ran.{best_in}
 use Rattle.mz_run.proofs.closing.close.Goals as goal
 
-pub returns-in_err-write_best : goal.returns-in_err-write_best
-returns-in_err-write_best g c =
+pub returns-in_err-write_plan : goal.returns-in_err-write_plan
+returns-in_err-write_plan g c =
     let p = err_from_is_err_and c.from_residual.result c.from_residual.ensures.1 in
-    rw (p.1, p.2) (stopped_first _ _ _ _ _ c.in_err-write_best.ensures)
-
-pub returns-in_err-line : goal.returns-in_err-line
-returns-in_err-line g c =
-    let p = err_from_is_err_and c.from_residual-in_err-line.result c.from_residual-in_err-line.ensures.1 in
-    rw (p.1, p.2) (stopped_here _ _ _ _ c.in_ok-write_best.ensures)
+    rw (p.1, p.2) (best_stops c.args.job.now c.args.trails.now c.args.reports.now (best_in c.args.best.now) c.args.best.now.plan _ _ _ c.in_err-write_plan.ensures)
 
 pub returns : goal.returns
-returns g c = performed_later _ _ _ _ _ c.say.result c.in_ok-write_best.ensures (rw (c.deref.ensures.value, c.in_ok-line.ensures) at c.say.ensures)
+returns g c = best_goes_on c.args.job.now c.args.trails.now c.args.reports.now (best_in c.args.best.now) c.args.best.now.plan _ _ _ c.close_runs.result c.in_ok-write_plan.ensures c.close_runs.ensures

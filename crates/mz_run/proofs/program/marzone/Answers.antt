@@ -1,4 +1,4 @@
-use Rattle.mz_run.proofs.WorkLemmas.{runs_whole, answers_accepted, completes_accepted, counts_accepted, counts_refused}
+use Rattle.mz_run.proofs.WorkLemmas.{runs_whole, answers_accepted, completes_accepted, completes_refused, counts_accepted, counts_refused}
 use Rattle.mz_run.proofs.program.marzone.Goals as goal
 
 pub returns-in-Ok-clause-runs : goal.returns-in-Ok-clause-runs
@@ -15,3 +15,6 @@ returns-in-Ok-clause-counts g c = counts_accepted _ c.args.chance _ _ _ c.in-Ok.
 
 pub returns-in-Err-clause-counts : goal.returns-in-Err-clause-counts
 returns-in-Err-clause-counts g c = counts_refused _ _ _ _ c.in-Err.status c.in-Err.ensures.ends c.refuse.ensures
+
+pub returns-in-Err-clause-completes : goal.returns-in-Err-clause-completes
+returns-in-Err-clause-completes g c = completes_refused _ _ _ _ _ c.in-Err.ensures.ends c.refuse.ensures
