@@ -1,5 +1,5 @@
 //! The board.
-ghost use Rattle.std.specs.Prelude.{◌≡◌, ◌+◌, ◌<◌, ◌≤◌, ℕ, List, [], ◌∷◌, length, slice_index_or, true, Some, IfOk};
+ghost use Rattle.std.specs.Prelude.{◌≡◌, ◌+◌, ◌<◌, ◌≤◌, ℕ, [], ◌∷◌, length, slice_index_or, true, Some, IfOk};
 ghost use Rattle.std.specs.List.{All};
 ghost use Rattle.mz_num.specs.Limits.{most_workers};
 ghost use Rattle.mz_board.specs.Chair.{AreFresh, AreAllOf, Learns};
@@ -12,11 +12,13 @@ use mz_num::NoMemory;
 use std::alloc::Global;
 use std::marker::Model;
 use std::snapshot::Snapshot;
+use std::sync::atomic::AtomicU32;
 
 mod chairs;
 mod looks;
 mod notes;
 mod turn;
+mod waiting;
 
 /// The word of the lock: 0, or the number of the chair that has the turn and 1.
 const LOCK: usize = 0;
@@ -32,6 +34,8 @@ const ITEMS: usize = 3;
 #[derive(Drop)]
 pub struct Board<T: Story + Drop> {
     table: BoardTable<T>,
+    /// How many chairs sleep until the turn ends, or are about to: a hint, of which no contract speaks.
+    sleepers: AtomicU32,
 }
 
 impl<T: Story + Drop> Model for Board<T> {
@@ -94,7 +98,10 @@ impl<T: Story + Send + Drop> Board<T> {
         let Ok((table, seat)) = Table::new(alloc, &all, slots, &about) else {
             return Err(NoMemory);
         };
-        let board = Board { table };
+        let board = Board {
+            table,
+            sleepers: AtomicU32::new(0),
+        };
         let chairs = board.deal(room, seat, seats);
         Ok((board, chairs))
     }
@@ -109,7 +116,7 @@ impl<T: Story + Send + Drop> Board<T> {
         ensures owners { All (λ entry. T.owner entry < self.seats) (T.entries result) }
     {
         let seat = self.gather(chairs);
-        let Board { table } = self;
+        let Board { table, sleepers: _ } = self;
         let mut closed = table.close_with(seat);
         let value = closed.take(0);
         closed.free();

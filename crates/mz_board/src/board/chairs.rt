@@ -1,6 +1,5 @@
 //! Chairs are dealt at the opening, and come together at the close.
-ghost use Rattle.std.specs.Prelude.{◌≡◌, ◌<◌, ◌≤◌, ℕ, List, [], ◌∷◌, length, Some, None, vec_capacity};
-ghost use Rattle.std.specs.List.{All};
+ghost use Rattle.std.specs.Prelude.{◌≡◌, ◌<◌, ◌≤◌, [], Some, None, vec_capacity};
 ghost use Rattle.mz_board.specs.Chair.{AreFresh, AreAllOf};
 ghost use Rattle.mz_board.specs.Gathering.{dealt_to, Gathers};
 

@@ -1,5 +1,5 @@
 //! A turn: the value is taken, an entry is appended and its items are stored, and the value is put back.
-ghost use Rattle.std.specs.Prelude.{◌≡◌, ◌<◌, ◌≤◌, ◌+◌, ◌^◌, ℕ, List, [], ◌∷◌, ◌++◌, length, Some, None, MatchResult};
+ghost use Rattle.std.specs.Prelude.{◌≡◌, ◌<◌, ◌≤◌, ◌+◌, List, [], ◌∷◌, ◌++◌, length, Some, None, MatchResult};
 ghost use Rattle.mz_board.specs.Items.{written, last_writes};
 ghost use Rattle.mz_board.specs.Views.{appended_view, published_view};
 ghost use Rattle.mz_board.specs.Chair.{Learns, Takes, TookTurn, Misses, MayAppend, EndsTurn};
@@ -23,9 +23,10 @@ impl<T: Story + Send + Drop> Board<T> {
         ensures now { TookTurn chair.old chair.new (T.entries result) }
     {
         for _ in rt.forever() {
+            self.stay_away();
             match self.try_take(chair) {
                 Ok(value) => return value,
-                Err(other) => self.table.shared.park(rt, LOCK, other as u32 + 1),
+                Err(other) => self.sleep(rt, other),
             }
         }
         unreachable!()
@@ -98,7 +99,7 @@ impl<T: Story + Send + Drop> Board<T> {
         chair.front = None;
         drop(shared.exchange(&mut chair.seat, 0, Some(value)));
         shared.swap::<Release<T>>(&mut chair.seat, LOCK, 0);
-        shared.wake_one(LOCK);
+        self.wake_sleeper();
     }
 
     // Publishes the front, if there is a new one.

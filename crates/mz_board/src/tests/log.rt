@@ -1,5 +1,5 @@
 //! A log of lines, as a value under the board: each line writes one item.
-ghost use Rattle.std.specs.Prelude.{◌≡◌, ◌≤◌, ℕ, Bool, true, false, [], ◌∷◌, ◌++◌, length};
+ghost use Rattle.std.specs.Prelude.{◌≡◌, ◌≤◌, true, false, [], ◌∷◌, ◌++◌, length};
 
 use crate::Story;
 use std::alloc::Global;
