@@ -1,3 +1,4 @@
+pub mod AheadLaws
 pub mod CrewLaws
 pub mod CrossingLaws
 pub mod WorkLaws

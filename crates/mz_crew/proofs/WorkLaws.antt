@@ -20,7 +20,8 @@ use Rattle.mz_store.specs.Commits.{Commits}
 use Rattle.mz_store.specs.Pass.{draw_of, Looks, PassState}
 use Rattle.mz_store.specs.RunSetting.{RunSetting}
 use Rattle.mz_store.specs.Verdict.{added, answer_of, verdict_on}
-use Rattle.mz_crew.specs.Works.{Leads, Proposes, words_at}
+use Rattle.mz_crew.specs.Ahead.{AreAhead, draws_at_once}
+use Rattle.mz_crew.specs.Works.{Leads, Proposes}
 
 -- ---- a proposal
 
@@ -75,13 +76,15 @@ proposed run old between new unit reading verdict looks commits =
 
 -- ---- the loop
 
--- where a worker stands: its draw is the pass's next one, the drawer is one draw further, and the rooms fit
-pub record StandsAt (run : RunSetting) (parts : Parts) (first pass : PassState) (draw : Draw) (words : SeatWords) (reading : Reading) (judged : Judged) : Type 0 where
+-- where a worker stands: its draw is the pass's next one, those that are made ahead are the ones behind it, and the
+-- rooms fit
+pub record StandsAt (run : RunSetting) (parts : Parts) (first pass : PassState) (draw : Draw) (behind : List Draw) (words : SeatWords) (reading : Reading) (judged : Judged) : Type 0 where
   pub store_is : pass.store ≡ first.store
   pub seat_is : pass.seat ≡ first.seat
   pub begins : Begins first.seen pass.seen
   pub drawn : draw ≡ draw_of run pass
   pub unit : draw.unit < unit_count parts
-  pub words_are : words ≡ words_at run pass (pass.number + 1)
+  pub ahead : AreAhead run pass (pass.number + 1) behind words
+  pub few : length behind < draws_at_once
   pub reading_fits : FitsReading parts reading
   pub judged_fits : FitsJudged parts judged

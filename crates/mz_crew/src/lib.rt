@@ -4,6 +4,7 @@
 //! Seats are numbered from 0. Scores are whole numbers of ten-thousandths. The device is this project's own.
 #![tactic(auto)]
 
+mod ahead;
 mod annealing;
 mod gate;
 mod worker;

@@ -1,13 +1,15 @@
 //! One worker's loop.
-ghost use Rattle.std.specs.Prelude.{◌≡◌, ◌+◌, ◌<◌, Some, length};
+ghost use Rattle.std.specs.Prelude.{◌≡◌, ◌<◌, Some, length};
 ghost use Rattle.mz_model.specs.Parts.{unit_count};
 ghost use Rattle.mz_model.specs.Zones.{free_units};
 ghost use Rattle.mz_delta.specs.Judged.{IsRight};
 ghost use Rattle.mz_delta.specs.Rooms.{FitsJudged, FitsReading};
 ghost use Rattle.mz_store.specs.Commits.{Commits};
 ghost use Rattle.mz_store.specs.Pass.{draw_of};
+ghost use Rattle.mz_crew.specs.Ahead.{IsPast};
 ghost use Rattle.mz_crew.specs.Works.{Proposes, Works, words_at};
 
+use crate::ahead::Ahead;
 use crate::gate::{Gate, Point};
 use mz_delta::{Judged, Reading, judge};
 use mz_draw::{Draw, Drawer};
@@ -17,7 +19,8 @@ use mz_store::{Pass, Store, TryVerdict, Verdict};
 use std::sync::Wait;
 
 /// Proposes the draws of the pass's seat one after another, each until it is decided, and ends once the journal has as
-/// many entries as it may have. A commit is tried once and then waits for its turn. It takes no memory.
+/// many entries as it may have. It makes draws ahead, and those that are left over are lost. A commit is tried once and
+/// then waits for its turn. It takes no memory.
 pub fn work<R: Wait, G: Gate>(
     rt: &R,
     problem: &Problem,
@@ -38,44 +41,26 @@ pub fn work<R: Wait, G: Gate>(
     // the rooms fit
     requires reading { FitsReading problem.now reading.old }
     requires judged { FitsJudged problem.now judged.now }
-    // the pass has seen the whole journal, and the drawer is one draw further than the pass
+    // the pass has seen the whole journal, and the drawer is past its next draw
     ensures works { Works store.now.run pass.old pass.new }
-    ensures drawer { drawer.new ≡ words_at store.now.run pass.new (pass.new.number + 1) }
+    ensures drawer { IsPast store.now.run pass.new drawer.new }
     // the rooms stay
     ensures reading { FitsReading problem.now reading.new }
     ensures judged { FitsJudged problem.now judged.exit.now }
 {
     let _ = rules;
-    let mut draw = next_draw(problem, store, pass, drawer);
+    let mut ahead = Ahead::none();
+    let mut draw = ahead.next(problem, store, pass, drawer);
     loop {
         match propose(rt, problem, store, pass, draw, reading, judged, gate) {
             Verdict::Decided(_) => {
                 gate.pass(pass.seat(), Point::Decided);
-                draw = next_draw(problem, store, pass, drawer);
+                draw = ahead.next(problem, store, pass, drawer);
             }
             Verdict::Again(_) => gate.pass(pass.seat(), Point::Overtaken),
             Verdict::Full => return,
         }
     }
-}
-
-/// The pass's next draw.
-fn next_draw(problem: &Problem, store: &Store, pass: &Pass, drawer: &mut Drawer) -> Draw
-    // The store's problem, some unit of which is free.
-    requires problem { problem.now ≡ store.now.run.setting.parts }
-    requires some_free { 0 < length (free_units problem.now) }
-
-    // The drawer before and after the draw.
-    requires drawer { drawer.old ≡ words_at store.now.run pass.now pass.now.number }
-    ensures drawn { result ≡ draw_of store.now.run pass.now }
-    ensures unit { result.unit < unit_count problem.now }
-    ensures drawer { drawer.new ≡ words_at store.now.run pass.now (pass.now.number + 1) }
-{
-    let _ = store;
-    let number = pass.number();
-    let seen = pass.seen();
-    prove!(number <= u64::from(seen));
-    drawer.next(problem.free(), problem.counts())
 }
 
 /// Looks at the draw's unit, judges the draw by what was read, and commits it.
