@@ -45,24 +45,24 @@ all_done : {X : Type 0} (a b c d : List Act) (old one two three new : State) (r 
 all_done a b c d old one two three new r first second third h =
     performed_later a (b ++ (c ++ d)) old one new r first (performed_later b (c ++ d) one two new r second (performed_later c d two three new r third h))
 
-abbrev said_last : List ℕ → Best → List Act
-said_last reports best = Say (closing_text best reports) ∷ []
+abbrev said_last : Job → List ℕ → Best → List Act
+said_last job reports best = Say (closing_text job best reports) ∷ []
 
 -- the files of all runs, and the closing line
 pub summary_stops : (job : Job) (trails : List RunTrail) (reports : List ℕ) (best : Best) (old new : State) (stop : Stop) → Stopped (summary_acts job trails) old new stop → Stopped (all_runs_acts job trails reports best) old new stop
-summary_stops job trails reports best old new stop h = first_stops (summary_acts job trails) (summed_acts job trails) (turns_acts job trails) (said_last reports best) old new stop h
+summary_stops job trails reports best old new stop h = first_stops (summary_acts job trails) (summed_acts job trails) (turns_acts job trails) (said_last job reports best) old new stop h
 
 pub summed_stops : (job : Job) (trails : List RunTrail) (reports : List ℕ) (best : Best) (old one new : State) (stop : Stop) → DidAll (summary_acts job trails) old one → Stopped (summed_acts job trails) one new stop → Stopped (all_runs_acts job trails reports best) old new stop
-summed_stops job trails reports best old one new stop first h = second_stops (summary_acts job trails) (summed_acts job trails) (turns_acts job trails) (said_last reports best) old one new stop first h
+summed_stops job trails reports best old one new stop first h = second_stops (summary_acts job trails) (summed_acts job trails) (turns_acts job trails) (said_last job reports best) old one new stop first h
 
 pub turns_stop : (job : Job) (trails : List RunTrail) (reports : List ℕ) (best : Best) (old one two new : State) (stop : Stop) → DidAll (summary_acts job trails) old one → DidAll (summed_acts job trails) one two → Stopped (turns_acts job trails) two new stop
     → Stopped (all_runs_acts job trails reports best) old new stop
-turns_stop job trails reports best old one two new stop first second h = third_stops (summary_acts job trails) (summed_acts job trails) (turns_acts job trails) (said_last reports best) old one two new stop first second h
+turns_stop job trails reports best old one two new stop first second h = third_stops (summary_acts job trails) (summed_acts job trails) (turns_acts job trails) (said_last job reports best) old one two new stop first second h
 
 pub line_waits : (job : Job) (trails : List RunTrail) (reports : List ℕ) (best : Best) (old one two new : State) → DidAll (summary_acts job trails) old one → DidAll (summed_acts job trails) one two → DidAll (turns_acts job trails) two new
     → Stopped (all_runs_acts job trails reports best) old new NoMemory
-line_waits job trails reports best old one two new first second third = last_waits (summary_acts job trails) (summed_acts job trails) (turns_acts job trails) (said_last reports best) old one two new first second third
+line_waits job trails reports best old one two new first second third = last_waits (summary_acts job trails) (summed_acts job trails) (turns_acts job trails) (said_last job reports best) old one two new first second third
 
 pub line_said : {X : Type 0} (job : Job) (trails : List RunTrail) (reports : List ℕ) (best : Best) (old one two three new : State) (r : Result X Stop) → DidAll (summary_acts job trails) old one → DidAll (summed_acts job trails) one two → DidAll (turns_acts job trails) two three
-    → Performed (Say (closing_text best reports) ∷ []) three new r → Performed (all_runs_acts job trails reports best) old new r
-line_said job trails reports best old one two three new r first second third h = all_done (summary_acts job trails) (summed_acts job trails) (turns_acts job trails) (said_last reports best) old one two three new r first second third h
+    → Performed (Say (closing_text job best reports) ∷ []) three new r → Performed (all_runs_acts job trails reports best) old new r
+line_said job trails reports best old one two three new r first second third h = all_done (summary_acts job trails) (summed_acts job trails) (turns_acts job trails) (said_last job reports best) old one two three new r first second third h

@@ -4,4 +4,5 @@ mod CountLemmas
 mod EndingLemmas
 mod PreparedLemmas
 mod RunLemmas
+mod WatchingLemmas
 mod WorkLemmas

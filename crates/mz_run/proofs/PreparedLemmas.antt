@@ -4,6 +4,10 @@ use Rattle.std.specs.FinMap.{get}
 use Rattle.std.specs.Result.{MatchResult}
 use Rattle.mz_shelf.specs.State.{State, Files}
 use Rattle.mz_shelf.proofs.ChainLemmas.{DidAll-nil}
+use Rattle.mz_gen.specs.Files.{files_of}
+use Rattle.mz_gen.specs.Made.{Made}
+use Rattle.mz_gen.specs.declared.fault.GenFault.{GenFault}
+use Rattle.mz_gen.specs.declared.fault.GenFault.TheVariants as made
 use Rattle.mz_params.specs.declared.params.Params.{Params}
 use Rattle.mz_params.specs.ParamFile.{IsAccepted, params_from}
 use Rattle.mz_model.specs.declared.parts.Parts.{Parts}
@@ -21,10 +25,11 @@ use Rattle.mz_run.specs.declared.job.Job.{Job}
 use Rattle.mz_run.specs.declared.status.Status.{Status}
 use Rattle.mz_run.specs.declared.status.Status.TheVariants.{Words}
 use Rattle.mz_run.specs.Arguments.{Form}
-use Rattle.mz_run.specs.Arguments.Form.{File}
-use Rattle.mz_run.specs.Prepared.{IsInputStopped, IsPrepared, NotPrepared, Prepared}
+use Rattle.mz_run.specs.Arguments.Form.{File, Generated}
+use Rattle.mz_run.specs.Prepared.{IsAcceptedJob, IsInputStopped, IsPrepared, NotPrepared, Prepared}
+use Rattle.mz_run.specs.Prepared.IsInputStopped.{in_reading, in_starting}
 use Rattle.mz_run.specs.Run.{seed_of}
-use Rattle.mz_run.specs.Project.{InputStopped, asked_of, parts_asked, project_of, status_of_read}
+use Rattle.mz_run.specs.Project.{InputStopped, asked_of, parts_asked, project_of, status_of_made, status_of_read}
 
 -- why a reading stopped, as a status
 pub input_stopped : {X : Type 0} (reads : Files → Reads X) (old new : State) (f : ReadFault) → IsStopped reads old new f → InputStopped reads old new (status_of_read f)
@@ -33,20 +38,17 @@ input_stopped reads old new (fault.Absent name) h = h
 input_stopped reads old new (fault.Input f) h = h
 input_stopped reads old new fault.NoMemory h = h
 
-input_fails : (old new : State) (name : List ℕ) (workers : ℕ) (f : ReadFault) → IsStopped (asked_of name) old new f → IsInputStopped (File name workers) old new (status_of_read f)
-input_fails old new name workers f h = record { started = old; start = DidAll-nil old; stopped = input_stopped (asked_of name) old new f h }
-
 -- the parameter file stopped
-pub params_stopped : (old new : State) (name : List ℕ) (workers : ℕ) (f : ReadFault) → IsStopped (params_read name) old new f → IsInputStopped (File name workers) old new (status_of_read f)
+pub params_stopped : (old new : State) (name : List ℕ) (f : ReadFault) → IsStopped (params_read name) old new f → InputStopped (asked_of name) old new (status_of_read f)
 unfolding asked_of
-params_stopped old new name workers f h = input_fails old new name workers f (stops (params_read name) parts_asked old new f h)
+params_stopped old new name f h = input_stopped (asked_of name) old new f (stops (params_read name) parts_asked old new f h)
 
 -- a file of the project stopped
-pub project_stopped : (old mid new : State) (name : List ℕ) (workers : ℕ) (params : Params) (f : ReadFault) → IsGiven (params_read name) old mid params
-    → IsStopped (project_read params) mid new f → IsInputStopped (File name workers) old new (status_of_read f)
+pub project_stopped : (old mid new : State) (name : List ℕ) (params : Params) (f : ReadFault) → IsGiven (params_read name) old mid params
+    → IsStopped (project_read params) mid new f → InputStopped (asked_of name) old new (status_of_read f)
 unfolding asked_of
-project_stopped old mid new name workers params f given h =
-    input_fails old new name workers f
+project_stopped old mid new name params f given h =
+    input_stopped (asked_of name) old new f
     (goes_on (params_read name) parts_asked params old mid new (Err f) given (stops (project_read params) (λ parts files. taken (Ok (project_of params parts))) mid new f h))
 
 -- the project is given
@@ -75,19 +77,28 @@ files_read name params built old mid new given rest =
     (λ files first more. one_then name (params_read name files).names (given_files built) old mid new (params_names name files) first more) given.names (told_along old mid (λ _. ReadEach (given_files built) mid new) given.read.contents rest)
 
 -- a job of a given project
-pub file_prepared : (name : List ℕ) (workers chance : ℕ) (old mid new : State) (job : Job) → IsGiven (params_read name) old mid job.params
-    → IsGiven (project_read job.params) mid new job.problem → IfTold mid (λ _. ReadEach (given_files job.params) mid new) → IsAccepted job.params → job.workers ≡ workers → job.generated ≡ None → job.seed ≡ seed_of job.params chance
-    → IsPrepared (File name workers) chance old new job
-file_prepared name workers chance old mid new job given whole rest accepted own_workers generated seed = record {
-  started = old;
-  start = DidAll-nil old;
+pub job_accepted : (name : List ℕ) (workers : ℕ) (generated : Option ℕ) (chance : ℕ) (old mid new : State) (job : Job) → IsGiven (params_read name) old mid job.params
+    → IsGiven (project_read job.params) mid new job.problem → IfTold mid (λ _. ReadEach (given_files job.params) mid new) → IsAccepted job.params → job.workers ≡ workers → job.generated ≡ generated → job.seed ≡ seed_of job.params chance
+    → IsAcceptedJob name workers generated chance old new job
+job_accepted name workers generated chance old mid new job given whole rest accepted own_workers own_number seed = record {
   input = project_given old mid new name job.params job.problem given whole;
   files = files_read name job.params job.params old mid new given rest;
   accepted = accepted;
-  workers = own_workers;
-  generated = generated;
-  seed = seed;
+  workers_are = own_workers;
+  generated_is = own_number;
+  seed_is = seed;
 }
+
+-- a project in files of its own is read at once
+pub file_read : (name : List ℕ) (workers chance : ℕ) (old new : State) (r : Result Job Status) → MatchResult r (λ job. IsAcceptedJob name workers None chance old new job) (λ status. InputStopped (asked_of name) old new status)
+    → MatchResult r (λ job. IsPrepared (File name workers) chance old new job) (λ status. IsInputStopped (File name workers) old new status)
+file_read name workers chance old new (Ok job) h = record { started = old; start = DidAll-nil old; read = h }
+file_read name workers chance old new (Err status) h = in_reading old (DidAll-nil old) h
+
+-- a project wasn't made whole
+pub made_stopped : (X : Type 0) (number : ℕ) (old new : State) (f : GenFault) → Made {X = X} (files_of number) old new (Err f) → IsInputStopped (Generated number) old new (status_of_made f)
+made_stopped X number old new (made.Shelf name) h = in_starting h
+made_stopped X number old new made.NoMemory h = in_starting h
 
 -- words without a form
 pub no_form : (words : Option Form) (old : State) → None ≡ words → NotPrepared words old old Words

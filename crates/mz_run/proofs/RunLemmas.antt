@@ -1,6 +1,7 @@
 -- Runs one after another, and the best of them.
 use Rattle.std.proofs.Common.{◌≡◌, ℕ, suc, ◌+◌, ◌-◌, ◌<◌, ◌≤◌, Bool, true, false, cond, get_or, List, [], ◌∷◌, ◌++◌, length, map, Option, Some, None, refl, sym, ap, subst, ◌∙◌, arith, length-append, append-nil}
-use Rattle.std.specs.Prelude.{nat_lt, if◌then◌else◌}
+use Rattle.std.specs.Prelude.{nat_lt, if◌then◌else◌, slice_index}
+use Rattle.std.proofs.lemmas.Bool.{ltb-false, ltb-true}
 use Rattle.std.proofs.Math.Nat.{add-zero}
 use Rattle.std.proofs.Math.Seq.{get_or-append_seam}
 use Rattle.std.proofs.lemmas.List.{get_or_append_left, length-map, map-append}
@@ -28,9 +29,10 @@ use Rattle.mz_run.specs.declared.job.Job.{Job}
 use Rattle.mz_files.specs.declared.trail.RunTrail.{RunTrail}
 use Rattle.mz_run.specs.declared.runs.BestRun.{BestRun}
 use Rattle.mz_run.specs.End.{IsEnd}
-use Rattle.mz_run.specs.Acts.{acts_of_trails, plan_of_run, plans_of, run_acts, scores_of, summary_row, summary_rows}
-use Rattle.mz_run.specs.Best.{Best, better, best_from, best_of}
-use Rattle.mz_run.specs.Ran.{CountsMore, HasCounted, IsBestRun, KeepsBest, RanFirst, RanOnce, RunStopped, RunsStopped, best_in, better_run}
+use Rattle.mz_run.specs.Acts.{acts_of_trails, plan_of_run, plans_of, run_acts, summary_row, totals_of_runs}
+use Rattle.mz_sums.specs.Best.{best_of}
+use Rattle.mz_sums.proofs.BestLemmas.{best_of_first, best_of_kept, best_of_taken}
+use Rattle.mz_run.specs.Ran.{CountsMore, HasCounted, IsBestRun, KeepsBest, RanFirst, RanOnce, RunStopped, RunsStopped, better_run}
 use Rattle.mz_run.specs.Ran.RunStopped.{no_trail, in_acts}
 use Rattle.mz_run.specs.Ran.StopsIn.{between_runs, in_one}
 use Rattle.mz_history.specs.Replay.{IsLegalHistory, replay_of}
@@ -52,25 +54,13 @@ acts_of_trails-push job trails trail =
 length-push : (trails : List RunTrail) (trail : RunTrail) (n : ℕ) → length trails ≡ n → length (trails ++ trail ∷ []) ≡ n + 1
 length-push trails trail n whole = length-append trails (trail ∷ []) ∙ ap (λ k. k + 1) whole
 
--- the best of scores with one more
+-- the totals of the runs' scores with one more
 
-best_from-push : (best : Option Best) (run : ℕ) (scores : List Score) (score : Score) → best_from best run (scores ++ score ∷ []) ≡ Some (better (best_from best run scores) (run + length scores) score)
-best_from-push best run [] score = ap (λ n. Some (better best n score)) (sym (add-zero run))
-best_from-push best run (first ∷ scores) score =
-    let next : run + 1 + length scores ≡ run + suc (length scores) = omega arith in
-    best_from-push (Some (better best run first)) (run + 1) scores score ∙ ap (λ n. Some (better (best_from (Some (better best run first)) (run + 1) scores) n score)) next
+totals-push : (trails : List RunTrail) (trail : RunTrail) → totals_of_runs (trails ++ trail ∷ []) ≡ totals_of_runs trails ++ trail.score.total ∷ []
+totals-push trails trail = map-append (λ (t : RunTrail). t.score.total) trails (trail ∷ [])
 
-length-scores : (trails : List RunTrail) → length (scores_of trails) ≡ length trails
-length-scores [] = refl
-length-scores (trail ∷ trails) = ap suc (length-scores trails)
-
-best_of-push : (trails : List RunTrail) (trail : RunTrail) (kept : Option Best) (run : ℕ) → best_of (scores_of trails) ≡ kept → run ≡ 1 + length trails
-    → best_of (scores_of (trails ++ trail ∷ [])) ≡ Some (better kept run trail.score)
-best_of-push trails trail kept run so_far next =
-    ap best_of (map-append (λ (t : RunTrail). t.score) trails (trail ∷ []))
-    ∙ best_from-push None 1 (scores_of trails) trail.score
-    ∙ ap (λ (b : Option Best). Some (better b (1 + length (scores_of trails)) trail.score)) so_far
-    ∙ ap (λ n. Some (better kept n trail.score)) (ap (λ n. 1 + n) (length-scores trails) ∙ sym next)
+length-totals-of-runs : (trails : List RunTrail) → length (totals_of_runs trails) ≡ length trails
+length-totals-of-runs trails = length-map trails (λ (t : RunTrail). t.score.total)
 
 -- the plans of the runs
 
@@ -106,11 +96,16 @@ record IsNext (job : Job) (trails : List RunTrail) (trail : RunTrail) (last : Be
   plan_is : last.plan ≡ final_plan job (1 + length trails) trail.turns
   totals_are : last.totals.items ≡ totals_of_plan job.problem last.plan
 
-last_kept : (job : Job) (trails : List RunTrail) (trail : RunTrail) (last : BestRun) → IsNext job trails trail last → best_of (scores_of (trails ++ trail ∷ [])) ≡ Some (best_in last) → IsBestRun job (trails ++ trail ∷ []) last
+last_kept : (job : Job) (trails : List RunTrail) (trail : RunTrail) (last : BestRun) → IsNext job trails trail last → best_of (totals_of_runs (trails ++ trail ∷ [])) ≡ Some (length trails) → IsBestRun job (trails ++ trail ∷ []) last
 last_kept job trails trail last next best =
     let own : final_plan job (1 + length trails) trail.turns ≡ last.plan = sym next.plan_is in
+    let place : last.run - 1 ≡ length (totals_of_runs trails) = omega (arith, next.run_is, length-totals-of-runs trails) in
     record {
-      best = best;
+      best = best ∙ ap (λ n. Some n) (omega (arith, next.run_is));
+      total = ap (λ totals. slice_index totals (last.run - 1)) (totals-push trails trail)
+          ∙ ap (slice_index (totals_of_runs trails ++ trail.score.total ∷ [])) place
+          ∙ get_or-append_seam (totals_of_runs trails) trail.score.total [] 0
+          ∙ ap (λ (score : Score). score.total) (sym next.score_is);
       from_one = omega (arith, next.run_is);
       within = omega (arith, next.run_is, length-push trails trail (length trails) refl);
       plan_is = next.plan_is ∙ ap (λ n. final_plan job n trail.turns) (sym next.run_is) ∙ sym (plan_of_run-last job trails trail last.run next.run_is);
@@ -119,9 +114,12 @@ last_kept job trails trail last next best =
       score_is = next.score_is ∙ next.trail_is.score ∙ ap (score_of_plan job.problem) own;
     }
 
-earlier_kept : (job : Job) (trails : List RunTrail) (trail : RunTrail) (kept : BestRun) → IsBestRun job trails kept → best_of (scores_of (trails ++ trail ∷ [])) ≡ Some (best_in kept) → IsBestRun job (trails ++ trail ∷ []) kept
+earlier_kept : (job : Job) (trails : List RunTrail) (trail : RunTrail) (kept : BestRun) → IsBestRun job trails kept → best_of (totals_of_runs (trails ++ trail ∷ [])) ≡ Some (kept.run - 1) → IsBestRun job (trails ++ trail ∷ []) kept
 earlier_kept job trails trail kept is best = record {
   best = best;
+  total = ap (λ totals. slice_index totals (kept.run - 1)) (totals-push trails trail)
+      ∙ get_or_append_left (totals_of_runs trails) (trail.score.total ∷ []) 0 (kept.run - 1) (omega (arith, is.from_one, is.within, length-totals-of-runs trails))
+      ∙ is.total;
   from_one = is.from_one;
   within = omega (arith, is.within, length-push trails trail (length trails) refl);
   plan_is = is.plan_is ∙ sym (plan_of_run-earlier job trails trail kept.run is.from_one is.within);
@@ -130,20 +128,30 @@ earlier_kept job trails trail kept is best = record {
   score_is = is.score_is;
 }
 
+-- the kept run stays the best, or the last one is
+stays : (job : Job) (trails : List RunTrail) (trail : RunTrail) (kept : BestRun) → IsBestRun job trails kept → kept.score.total ≤ trail.score.total → best_of (totals_of_runs (trails ++ trail ∷ [])) ≡ Some (kept.run - 1)
+stays job trails trail kept is least =
+    ap best_of (totals-push trails trail) ∙ best_of_kept (totals_of_runs trails) trail.score.total (kept.run - 1) is.best (omega (arith, is.total, least))
+
+taken : (job : Job) (trails : List RunTrail) (trail : RunTrail) (kept : BestRun) → IsBestRun job trails kept → trail.score.total < kept.score.total → best_of (totals_of_runs (trails ++ trail ∷ [])) ≡ Some (length trails)
+taken job trails trail kept is lower =
+    ap best_of (totals-push trails trail) ∙ best_of_taken (totals_of_runs trails) trail.score.total (kept.run - 1) is.best (omega (arith, is.total, lower))
+    ∙ ap (λ n. Some n) (length-totals-of-runs trails)
+
 either : (job : Job) (trails : List RunTrail) (trail : RunTrail) (kept last : BestRun) (lower : Bool) → nat_lt last.score.total kept.score.total ≡ lower → IsBestRun job trails kept → IsNext job trails trail last
-    → best_of (scores_of (trails ++ trail ∷ [])) ≡ Some (if lower then best_in last else best_in kept) → IsBestRun job (trails ++ trail ∷ []) (if lower then last else kept)
-either job trails trail kept last true test is next best = last_kept job trails trail last next best
-either job trails trail kept last false test is next best = earlier_kept job trails trail kept is best
+    → IsBestRun job (trails ++ trail ∷ []) (if lower then last else kept)
+either job trails trail kept last true test is next =
+    let own : last.score.total ≡ trail.score.total = ap (λ (score : Score). score.total) next.score_is in
+    last_kept job trails trail last next (taken job trails trail kept is (omega (arith, own, ltb-true last.score.total kept.score.total test)))
+either job trails trail kept last false test is next =
+    let own : last.score.total ≡ trail.score.total = ap (λ (score : Score). score.total) next.score_is in
+    earlier_kept job trails trail kept is (stays job trails trail kept is (omega (arith, own, ltb-false last.score.total kept.score.total test)))
 
 best_more : (job : Job) (trails : List RunTrail) (trail : RunTrail) (kept : Option BestRun) (last : BestRun) → KeepsBest job trails kept → IsNext job trails trail last → IsBestRun job (trails ++ trail ∷ []) (better_run kept last)
-best_more job trails trail None last keeps next =
+best_more job trails trail None last none next =
     last_kept job trails trail last next
-    (best_of-push trails trail None last.run keeps next.run_is ∙ ap (λ (score : Score). let b : Best = record { run = last.run; score = score } in Some b) (sym next.score_is))
-best_more job trails trail (Some kept) last keeps next =
-    let lower = nat_lt last.score.total kept.score.total in
-    either job trails trail kept last lower refl keeps next
-    (best_of-push trails trail (Some (best_in kept)) last.run keeps.best next.run_is
-    ∙ ap (λ (score : Score). Some (better (Some (best_in kept)) last.run score)) (sym next.score_is))
+    (ap (λ (ts : List RunTrail). best_of (totals_of_runs (ts ++ trail ∷ []))) none ∙ best_of_first trail.score.total ∙ ap (λ (ts : List RunTrail). Some (length ts)) (sym none))
+best_more job trails trail (Some kept) last is next = either job trails trail kept last (nat_lt last.score.total kept.score.total) refl is next
 
 -- what is counted, with one run more
 counted_more : (job : Job) (trails : List RunTrail) (trail : RunTrail) (old new : Counted) → HasCounted job trails old → CountsMore job trail old new → HasCounted job (trails ++ trail ∷ []) new

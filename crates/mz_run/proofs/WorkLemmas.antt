@@ -1,6 +1,7 @@
 -- The stages of the work, and the whole run of the program.
-use Rattle.std.proofs.Common.{◌≡◌, ℕ, ◌<◌, List, [], ◌∷◌, ◌++◌, length, Result, Ok, Err, Option, Some, None, sym, ap, subst, ◌∙◌, append_assoc, append-nil}
-use Rattle.std.specs.Prelude.{if◌then◌else◌, IfSome}
+use Rattle.std.proofs.Common.{◌≡◌, ℕ, ◌+◌, ◌-◌, ◌<◌, ◌≤◌, arith, List, [], ◌∷◌, ◌++◌, length, Result, Ok, Err, Option, Some, None, refl, sym, ap, subst, ◌∙◌, append_assoc, append-nil}
+use Rattle.std.specs.Prelude.{if◌then◌else◌, slice_index, IfSome}
+use Rattle.std.specs.Option.{option_map}
 use Rattle.std.proofs.lemmas.Bool.{eq-eqb}
 use Rattle.std.proofs.lemmas.Grind.{flat_map-append}
 use Rattle.mz_shelf.specs.State.{State, Files, Contents, KeepsCounts, OneFault}
@@ -22,15 +23,20 @@ use Rattle.mz_files.specs.declared.trail.RunTrail.{RunTrail}
 use Rattle.mz_run.specs.declared.counted.Counted.{Counted}
 use Rattle.mz_run.specs.declared.runs.BestRun.{BestRun}
 use Rattle.mz_run.specs.Arguments.{Form, parameter_file, starting_acts}
-use Rattle.mz_run.specs.Acts.{acts_for_best, acts_of, acts_of_runs, acts_of_trails, best_acts, closing_acts, opening_acts, run_acts}
+use Rattle.mz_run.specs.Acts.{acts_for_best, acts_of, acts_of_runs, acts_of_trails, best_acts, closing_acts, opening_acts, run_acts, totals_of_runs}
+use Rattle.mz_run.specs.Best.{Best, run_at}
 use Rattle.mz_run.specs.Ending.{Worked, SaysLine, Refuses, status_of, status_of_stop}
 use Rattle.mz_run.specs.Ending.SaysLine.{said, failed, unsaid}
 use Rattle.mz_run.specs.Ending.Stage.{in_opening, in_run, in_closing}
-use Rattle.mz_run.specs.Prepared.{IfStarted, IsPrepared, IsWords, NotPrepared, Prepared}
-use Rattle.mz_run.specs.Program.{Completes, IsAcceptedInput, IsAnswerTo, IsDoneOrNoMemory, LeavesCounts, NoneRose, RunsJob, RunsProgram, no_reports}
+use Rattle.mz_run.specs.Prepared.{IfStarted, IsInputStopped, IsPrepared, IsWords, NotPrepared, Prepared, StartStopped}
+use Rattle.mz_run.specs.Prepared.IsInputStopped.{in_reading, in_starting}
+use Rattle.mz_run.specs.Program.{AnswersInput, Completes, IsAcceptedInput, IsAnswerTo, IsDoneOrNoMemory, LeavesCounts, NoneRose, RunsJob, RunsProgram}
 use Rattle.mz_run.specs.Project.{InputStopped, Project, asked_of, project_of}
 use Rattle.mz_run.specs.Ran.{IsBestRun, RanFirst, RunsStopped, StopsIn, best_in}
 use Rattle.mz_run.specs.Ran.StopsIn.{between_runs, in_one}
+use Rattle.mz_run.specs.Trail.{AreTrails}
+use Rattle.mz_run.specs.Watching.{AreTold, reports_of}
+use Rattle.mz_watch.specs.Watcher.{WatcherState}
 
 -- the opening stopped
 opening_fails : (job : Job) (reports : List ℕ) (old new : State) (stop : Stop) → Stopped (opening_acts job) old new stop → Worked job [] reports old new (status_of_stop stop)
@@ -74,23 +80,49 @@ closing_ends job trails reports old between new (Err NoMemoryStop) whole did h =
 
 best_closing : (job : Job) (trails : List RunTrail) (reports : List ℕ) (kept : BestRun) → IsBestRun job trails kept → closing_acts job trails reports ≡ best_acts job trails reports (best_in kept) kept.plan
 best_closing job trails reports kept is =
-    ap (acts_for_best job trails reports) is.best ∙ ap (best_acts job trails reports (best_in kept)) (sym is.plan_is)
+    let run : kept.run - 1 + 1 ≡ kept.run = omega (arith, is.from_one) in
+    let same : run_at (totals_of_runs trails) (kept.run - 1) ≡ best_in kept =
+    ap (λ n. let b : Best = record { run = n; total = slice_index (totals_of_runs trails) (kept.run - 1) } in b) run
+    ∙ ap (λ n. let b : Best = record { run = kept.run; total = n } in b) is.total in
+    ap (λ (place : Option ℕ). acts_for_best job trails reports (option_map (run_at (totals_of_runs trails)) place)) is.best
+    ∙ ap (λ (best : Best). acts_for_best job trails reports (Some best)) same
+    ∙ ap (best_acts job trails reports (best_in kept)) (sym is.plan_is)
 
-pub closed : {X : Type 0} (job : Job) (trails asked : List RunTrail) (reports : List ℕ) (counted : Counted) (old opened between new : State) (best : Option BestRun) (kept : BestRun) (r : Result X Stop) → DidAll (opening_acts job) old opened → best ≡ Some kept → RanFirst job job.params.reps trails counted opened between best
-    → asked ≡ trails → Performed (best_acts job asked reports (best_in kept) kept.plan) between new r → Worked job trails reports old new (status_of r)
-closed job trails asked reports counted old opened between new best kept r first is found same h =
+pub closed : {X : Type 0} (job : Job) (trails asked : List RunTrail) (reports told : List ℕ) (counted : Counted) (old opened between new : State) (best : Option BestRun) (kept : BestRun) (r : Result X Stop) → DidAll (opening_acts job) old opened → best ≡ Some kept → RanFirst job job.params.reps trails counted opened between best
+    → asked ≡ trails → told ≡ reports → Performed (best_acts job asked told (best_in kept) kept.plan) between new r → Worked job trails reports old new (status_of r)
+closed job trails asked reports told counted old opened between new best kept r first is found same heard h =
     let ran : RanFirst job job.params.reps trails counted opened between (Some kept) = subst (RanFirst job job.params.reps trails counted opened between) is found in
-    let own : Performed (best_acts job trails reports (best_in kept) kept.plan) between new r = subst (λ (ts : List RunTrail). Performed (best_acts job ts reports (best_in kept) kept.plan) between new r) same h in
+    let own : Performed (best_acts job trails reports (best_in kept) kept.plan) between new r = subst (λ (ts : List RunTrail). Performed (best_acts job ts reports (best_in kept) kept.plan) between new r) same
+    (subst (λ (ns : List ℕ). Performed (best_acts job asked ns (best_in kept) kept.plan) between new r) heard h) in
     closing_ends job trails reports old between new r ran.whole (DidAll-append first ran.acts)
     (subst (λ (acts : List Act). Performed acts between new r) (sym (best_closing job trails reports kept ran.best)) own)
+
+-- memory ended the work before the closing
+pub reports_wait : (job : Job) (trails : List RunTrail) (reports : List ℕ) (counted : Counted) (old opened new : State) (best : Option BestRun) (stop : Stop) → DidAll (opening_acts job) old opened → RanFirst job job.params.reps trails counted opened new best → stop ≡ NoMemoryStop
+    → Worked job trails reports old new (status_of_stop stop)
+reports_wait job trails reports counted old opened new best stop first ran memory =
+    subst (λ (s : Stop). Worked job trails reports old new (status_of_stop s)) (sym memory) (StoppedBetween-before _ (StoppedBetween-all (DidAll-append first ran.acts)))
 
 -- what the closing needs
 pub best_kept : (job : Job) (trails : List RunTrail) (counted : Counted) (old new : State) (best : Option BestRun) (kept : BestRun) (count : ℕ) → best ≡ Some kept → RanFirst job count trails counted old new best → IsBestRun job trails kept
 best_kept job trails counted old new best kept count is ran = (subst (λ (b : Option BestRun). RanFirst job count trails counted old new b) is ran).best
 
+-- a job that was worked at, and what came of it was said
+pub runs_job : (job : Job) (watching told : List WatcherState) (old mid new : State) (finished : Finished) (trails : List RunTrail) (s : Status) → Worked job trails (reports_of told) old mid s → AreTrails job trails → length trails ≤ job.params.reps → AreTold job trails watching told
+    → finished.status ≡ s → finished.trails ≡ trails → finished.job ≡ Some job → Refuses finished.status mid new → RunsJob job watching told old new finished
+runs_job job watching told old mid new finished trails s worked runs few heard ended same own says = record {
+  before = mid;
+  worked = rw (ended, same) worked;
+  runs = rw same runs;
+  few = rw same few;
+  watchers = rw same heard;
+  refusal = says;
+  same_job = own;
+}
+
 -- a job that was prepared and worked at is a whole run of the program
-pub runs_whole : (form : Option Form) (chance : ℕ) (old mid new : State) (job : Job) (finished : Finished) → Prepared form chance old mid job → RunsJob job mid new finished → RunsProgram form chance old new finished
-runs_whole form chance old mid new job finished prepared ran = record {
+pub runs_whole : (form : Option Form) (chance : ℕ) (watching told : List WatcherState) (old mid new : State) (job : Job) (finished : Finished) → Prepared form chance old mid job → RunsJob job watching told mid new finished → RunsProgram form chance watching told old new finished
+runs_whole form chance watching told old mid new job finished prepared ran = record {
   before = ran.before;
   ends = rw ran.same_job (record {
     between = mid;
@@ -98,6 +130,7 @@ runs_whole form chance old mid new job finished prepared ran = record {
     worked = ran.worked;
     runs = ran.runs;
     few = ran.few;
+    watchers = ran.watchers;
   });
   refusal = ran.refusal;
 }
@@ -119,17 +152,60 @@ then_told (Some files) P Q more h = more files h
 pub if_started : (form : Form) (old started : State) (P : Files → Type 0) → DidAll (starting_acts form) old started → IfTold started P → IfStarted form old P
 if_started form old started P start h = subst (λ (c : Contents). IfSome c.files P) start.contents h
 
-pub answers_accepted : (form : Option Form) (chance : ℕ) (old mid new : State) (job : Job) (finished : Finished) → Prepared form chance old mid job → RunsJob job mid new finished
-    → IfSome form (λ f. IfStarted f old (λ files. IsAnswerTo (asked_of (parameter_file f) files).outcome finished.status))
-answers_accepted None chance old mid new job finished prepared ran = absurd prepared
-answers_accepted (Some form) chance old mid new job finished prepared ran =
+pub answers_accepted : (form : Option Form) (chance : ℕ) (watching told : List WatcherState) (old mid new : State) (job : Job) (finished : Finished) → Prepared form chance old mid job → RunsJob job watching told mid new finished
+    → IfSome form (λ f. AnswersInput f old finished.status)
+answers_accepted None chance watching told old mid new job finished prepared ran = absurd prepared
+answers_accepted (Some form) chance watching told old mid new job finished prepared ran =
     if_started form old prepared.started (λ files. IsAnswerTo (asked_of (parameter_file form) files).outcome finished.status) prepared.start
     (then_told prepared.started.contents.files (λ files. (asked_of (parameter_file form) files).outcome ≡ Given (project_of job.params job.problem)) _
-    (λ files e. accepted_answer job finished.trails no_reports mid ran.before finished.status ran.worked (asked_of (parameter_file form) files).outcome e) prepared.input.given)
+    (λ files e. accepted_answer job finished.trails (reports_of told) mid ran.before finished.status ran.worked (asked_of (parameter_file form) files).outcome e) prepared.read.input.given)
+
+-- a fault of the shelf and want of memory answer every input
+fault_answers : (asked : Outcome Project) (name : List ℕ) → IsAnswerTo asked (ShelfFault name)
+fault_answers (Missing missing) name = tt
+fault_answers (Refused fault) name = tt
+fault_answers (Given project) name = tt
+
+memory_answers : (asked : Outcome Project) → IsAnswerTo asked NoMemory
+memory_answers (Missing missing) = tt
+memory_answers (Refused fault) = tt
+memory_answers (Given project) = tt
+
+if_all : (o : Option Files) (P : Files → Type 0) → ((files : Files) → P files) → IfSome o P
+if_all None P all = tt
+if_all (Some files) P all = all files
+
+start_answers : (form : Form) (old mid : State) (s : Status) → StartStopped form old mid s → AnswersInput form old s
+start_answers form old mid Done h = absurd h
+start_answers form old mid Words h = absurd h
+start_answers form old mid (Input fault) h = absurd h
+start_answers form old mid (ShelfFault name) h = if_all _ _ (λ files. fault_answers (asked_of (parameter_file form) files).outcome name)
+start_answers form old mid (Absent name) h = absurd h
+start_answers form old mid NoMemory h = if_all _ _ (λ files. memory_answers (asked_of (parameter_file form) files).outcome)
+
+-- an input that was refused
+refused_answers : (name : List ℕ) (started mid : State) (s : Status) → InputStopped (asked_of name) started mid s → IfTold started (λ files. IsAnswerTo (asked_of name files).outcome s)
+refused_answers name started mid Done h = absurd h
+refused_answers name started mid Words h = absurd h
+refused_answers name started mid (Input fault) h =
+    then_told started.contents.files (λ files. (asked_of name files).outcome ≡ Refused fault) _ (λ files is. subst (λ (asked : Outcome Project). IsAnswerTo asked (Input fault)) (sym is) refl) h.refused
+refused_answers name started mid (ShelfFault fault) h = if_all _ _ (λ files. fault_answers (asked_of name files).outcome fault)
+refused_answers name started mid (Absent missing) h =
+    then_told started.contents.files (λ files. (asked_of name files).outcome ≡ Missing missing) _ (λ files is. subst (λ (asked : Outcome Project). IsAnswerTo asked (Absent missing)) (sym is) refl) h.missing
+refused_answers name started mid NoMemory h = if_all _ _ (λ files. memory_answers (asked_of name files).outcome)
+
+stopped_answers : (form : Form) (old mid : State) (s : Status) → IsInputStopped form old mid s → AnswersInput form old s
+stopped_answers form old mid s (in_starting h) = start_answers form old mid s h
+stopped_answers form old mid s (in_reading started start h) =
+    if_started form old started (λ files. IsAnswerTo (asked_of (parameter_file form) files).outcome s) start (refused_answers (parameter_file form) started mid s h)
+
+pub answers_refused : (form : Option Form) (old mid : State) (s : Status) → NotPrepared form old mid s → IfSome form (λ f. AnswersInput f old s)
+answers_refused None old mid s h = tt
+answers_refused (Some form) old mid s h = stopped_answers form old mid s h
 
 -- the counts of a prepared job's shelf are those that it had
 prepared_counts : (form : Form) (chance : ℕ) (old new : State) (job : Job) → IsPrepared form chance old new job → new.counts ≡ old.counts
-prepared_counts form chance old new job is = is.input.read.counts ∙ is.start.counts
+prepared_counts form chance old new job is = is.read.input.read.counts ∙ is.start.counts
 
 -- they never fall
 says_keeps : (line : List ℕ) (old new : State) → SaysLine line old new → KeepsCounts old.counts new.counts
@@ -148,11 +224,11 @@ completes_job job trails reports old mid before new (ShelfFault name) same h say
 completes_job job trails reports old mid before new (Absent name) same h says none = absurd h
 completes_job job trails reports old mid before new NoMemory same h says none = tt
 
-pub completes_accepted : (A : Form → Type 0) (form : Option Form) (chance : ℕ) (old mid new : State) (job : Job) (finished : Finished) → Prepared form chance old mid job → RunsJob job mid new finished
+pub completes_accepted : (A : Form → Type 0) (form : Option Form) (chance : ℕ) (watching told : List WatcherState) (old mid new : State) (job : Job) (finished : Finished) → Prepared form chance old mid job → RunsJob job watching told mid new finished
     → IfSome form (λ f. A f → NoneRose old new → IsDoneOrNoMemory finished.status)
-completes_accepted A None chance old mid new job finished prepared ran = absurd prepared
-completes_accepted A (Some form) chance old mid new job finished prepared ran =
-    λ _ none. completes_job job finished.trails no_reports old mid ran.before new finished.status (prepared_counts form chance old mid job prepared) ran.worked ran.refusal none
+completes_accepted A None chance watching told old mid new job finished prepared ran = absurd prepared
+completes_accepted A (Some form) chance watching told old mid new job finished prepared ran =
+    λ _ none. completes_job job finished.trails (reports_of told) old mid ran.before new finished.status (prepared_counts form chance old mid job prepared) ran.worked ran.refusal none
 
 -- a project that is given is none of the other outcomes
 abbrev pub IsGivenOutcome : Outcome Project → Type 0
@@ -180,9 +256,23 @@ refused_completes form old started mid new (Absent name) start h says accepted n
     absurd (subst IsGivenOutcome (sym accepted.asked ∙ missing) tt)
 refused_completes form old started mid new NoMemory start h says accepted none = tt
 
+-- a start that stopped without a fault that rose
+start_completes : (form : Form) (old mid new : State) (s : Status) → StartStopped form old mid s → Refuses s mid new → NoneRose old new → IsDoneOrNoMemory s
+start_completes form old mid new Done h says none = absurd h
+start_completes form old mid new Words h says none = absurd h
+start_completes form old mid new (Input fault) h says none = absurd h
+start_completes form old mid new (ShelfFault name) h says none =
+    absurd (none.faults (Rose-to old.counts.faults mid.counts.faults new.counts.faults (Rose-once (StoppedAt-one_fault h).faults) (says_keeps _ mid new says).faults))
+start_completes form old mid new (Absent name) h says none = absurd h
+start_completes form old mid new NoMemory h says none = tt
+
+stopped_completes : (form : Form) (old mid new : State) (s : Status) → IsInputStopped form old mid s → Refuses s mid new → Completes form old new s
+stopped_completes form old mid new s (in_starting h) says = λ accepted none. start_completes form old mid new s h says none
+stopped_completes form old mid new s (in_reading started start h) says = λ accepted none. refused_completes form old started mid new s start h says accepted none
+
 pub completes_refused : (form : Option Form) (old mid new : State) (s : Status) → NotPrepared form old mid s → Refuses s mid new → IfSome form (λ f. Completes f old new s)
 completes_refused None old mid new s h says = tt
-completes_refused (Some form) old mid new s h says = λ accepted none. refused_completes form old h.started mid new s h.start h.stopped says accepted none
+completes_refused (Some form) old mid new s h says = stopped_completes form old mid new s h says
 
 -- which ends leave the counts
 ended_counts : (job : Job) (trails : List RunTrail) (reports : List ℕ) (old mid before new : State) (s : Status) → mid.counts ≡ old.counts → Worked job trails reports mid before s → Refuses s before new → LeavesCounts s old new
@@ -193,10 +283,10 @@ ended_counts job trails reports old mid before new (ShelfFault name) same h says
 ended_counts job trails reports old mid before new (Absent name) same h says = tt
 ended_counts job trails reports old mid before new NoMemory same h says = ap (λ (s : State). s.counts) says ∙ h.counts ∙ same
 
-pub counts_accepted : (form : Option Form) (chance : ℕ) (old mid new : State) (job : Job) (finished : Finished) → Prepared form chance old mid job → RunsJob job mid new finished → LeavesCounts finished.status old new
-counts_accepted None chance old mid new job finished prepared ran = absurd prepared
-counts_accepted (Some form) chance old mid new job finished prepared ran =
-    ended_counts job finished.trails no_reports old mid ran.before new finished.status (prepared_counts form chance old mid job prepared) ran.worked ran.refusal
+pub counts_accepted : (form : Option Form) (chance : ℕ) (watching told : List WatcherState) (old mid new : State) (job : Job) (finished : Finished) → Prepared form chance old mid job → RunsJob job watching told mid new finished → LeavesCounts finished.status old new
+counts_accepted None chance watching told old mid new job finished prepared ran = absurd prepared
+counts_accepted (Some form) chance watching told old mid new job finished prepared ran =
+    ended_counts job finished.trails (reports_of told) old mid ran.before new finished.status (prepared_counts form chance old mid job prepared) ran.worked ran.refusal
 
 refused_counts : (reads : Files → Reads Project) (old mid new : State) (s : Status) → InputStopped reads old mid s → Refuses s mid new → LeavesCounts s old new
 refused_counts reads old mid new Done h says = absurd h
@@ -222,6 +312,18 @@ words_counts (ShelfFault name) old new h = absurd h
 words_counts (Absent name) old new h = absurd h
 words_counts NoMemory old new h = absurd h
 
+start_counts : (form : Form) (old mid new : State) (s : Status) → StartStopped form old mid s → Refuses s mid new → LeavesCounts s old new
+start_counts form old mid new Done h says = absurd h
+start_counts form old mid new Words h says = tt
+start_counts form old mid new (Input fault) h says = tt
+start_counts form old mid new (ShelfFault name) h says = tt
+start_counts form old mid new (Absent name) h says = tt
+start_counts form old mid new NoMemory h says = ap (λ (s : State). s.counts) says ∙ h.counts
+
+stopped_counts : (form : Form) (old mid new : State) (s : Status) → IsInputStopped form old mid s → Refuses s mid new → LeavesCounts s old new
+stopped_counts form old mid new s (in_starting h) says = start_counts form old mid new s h says
+stopped_counts form old mid new s (in_reading started start h) says = counts_from s old started new start.counts (refused_counts (asked_of (parameter_file form)) started mid new s h says)
+
 pub counts_refused : (form : Option Form) (old mid new : State) (s : Status) → NotPrepared form old mid s → Refuses s mid new → LeavesCounts s old new
 counts_refused None old mid new s h says = words_counts s old new h.0
-counts_refused (Some form) old mid new s h says = counts_from s old h.started new h.start.counts (refused_counts (asked_of (parameter_file form)) h.started mid new s h.stopped says)
+counts_refused (Some form) old mid new s h says = stopped_counts form old mid new s h says

@@ -6,10 +6,9 @@ use Rattle.mz_shelf.specs.Act.{Act}
 use Rattle.mz_shelf.specs.Act.Act.{Say, Write}
 use Rattle.mz_params.specs.declared.params.Params.{Params}
 use Rattle.mz_params.specs.Folder.{file_in}
-use Rattle.mz_model.specs.declared.score.Score.{Score}
 use Rattle.mz_run.specs.declared.job.Job.{Job}
 use Rattle.mz_files.specs.declared.trail.RunTrail.{RunTrail}
-use Rattle.mz_run.specs.Best.{Best, best_of}
+use Rattle.mz_run.specs.Best.{Best, best_run}
 use Rattle.mz_run.specs.Run.{final_plan}
 use Rattle.mz_run.specs.Lines.{opening_text, run_text, closing_text}
 use Rattle.mz_model.specs.Targets.{shortfall_of_plan}
@@ -35,9 +34,9 @@ output_name params part kind = file_in params.output_dir (params.scen ++ part ++
 abbrev pub file_if_asked : Params → ℕ → List ℕ → List ℕ → List Act
 file_if_asked params kind part text = if kind == 0 then [] else Write (output_name params part kind) text ∷ []
 
--- the score of each run
-abbrev pub scores_of : List RunTrail → List Score
-scores_of trails = map (λ (trail : RunTrail). trail.score) trails
+-- the total of each run's score
+abbrev pub totals_of_runs : List RunTrail → List ℕ
+totals_of_runs trails = map (λ (trail : RunTrail). trail.score.total) trails
 
 -- the plan that the run of this number ends with
 abbrev pub plan_of_run : Job → List RunTrail → ℕ → List ℕ
@@ -110,7 +109,7 @@ turns_acts job trails = file_if_asked job.params job.params.save_turns (codes "_
 abbrev pub all_runs_acts : Job → List RunTrail → List ℕ → Best → List Act
 all_runs_acts job trails reports best =
     summary_acts job trails
-    ++ (summed_acts job trails ++ (turns_acts job trails ++ Say (closing_text best reports) ∷ []))
+    ++ (summed_acts job trails ++ (turns_acts job trails ++ Say (closing_text job best reports) ∷ []))
 
 -- what is done with the best run and its plan, and then with all runs
 abbrev pub best_acts : Job → List RunTrail → List ℕ → Best → List ℕ → List Act
@@ -122,7 +121,7 @@ acts_for_best job trails reports None = []
 acts_for_best job trails reports (Some best) = best_acts job trails reports best (plan_of_run job trails best.run)
 
 abbrev pub closing_acts : Job → List RunTrail → List ℕ → List Act
-closing_acts job trails reports = acts_for_best job trails reports (best_of (scores_of trails))
+closing_acts job trails reports = acts_for_best job trails reports (best_run (totals_of_runs trails))
 
 abbrev pub acts_of_trails : Job → List RunTrail → List Act
 acts_of_trails job trails = flat_map (run_acts job) trails

@@ -1,22 +1,17 @@
--- The best of several runs, by their scores.
-use Rattle.std.specs.Prelude.{ℕ, ◌+◌, if◌then◌else◌, nat_lt, List, [], ◌∷◌, Option, Some, None}
-use Rattle.mz_model.specs.declared.score.Score.{Score}
+-- The best of several runs, by the totals of their scores.
+use Rattle.std.specs.Prelude.{ℕ, ◌+◌, List, slice_index, Option}
+use Rattle.std.specs.Option.{option_map}
+use Rattle.mz_sums.specs.Best.{best_of}
 
--- a run by its number, with its score
+-- a run by its number, with the total of its score
 pub record Best : Type 0 where
   pub run : ℕ
-  pub score : Score
+  pub total : ℕ
 
--- an earlier run stays the best unless a later one has a lower score
-abbrev pub better : Option Best → ℕ → Score → Best
-better None run score = record { run = run; score = score }
-better (Some best) run score = if nat_lt score.total best.score.total then record { run = run; score = score } else best
+-- the run at a place of these totals; runs count from 1
+abbrev pub run_at : List ℕ → ℕ → Best
+run_at totals place = record { run = place + 1; total = slice_index totals place }
 
--- the best so far, and then the scores of the runs from this one on
-abbrev pub best_from : Option Best → ℕ → List Score → Option Best
-best_from best run [] = best
-best_from best run (score ∷ scores) = best_from (Some (better best run score)) (run + 1) scores
-
--- the run of least score, the first of those that have it; runs count from 1
-abbrev pub best_of : List Score → Option Best
-best_of scores = best_from None 1 scores
+-- the run of the least total, the first of those that have it
+abbrev pub best_run : List ℕ → Option Best
+best_run totals = option_map (run_at totals) (best_of totals)

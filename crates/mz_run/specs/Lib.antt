@@ -11,3 +11,4 @@ pub mod Ran
 pub mod Refusal
 pub mod Run
 pub mod Trail
+pub mod Watching

@@ -14,34 +14,40 @@ use Rattle.mz_project.specs.Reads.{Outcome}
 use Rattle.mz_project.specs.Reads.Outcome.{Missing, Refused, Given}
 use Rattle.mz_run.specs.Project.{Project, asked_of}
 use Rattle.mz_run.specs.Trail.{AreTrails}
+use Rattle.mz_run.specs.Watching.{AreTold, reports_of}
+use Rattle.mz_watch.specs.Watcher.{WatcherState}
 
--- no watchers report
-abbrev pub no_reports : List ℕ
-no_reports = []
-
--- with a job: it was prepared; then it was worked at, and its trails are those of its first runs
-pub record EndsWithJob (form : Option Form) (chance : ℕ) (old new : State)
+-- with a job: it was prepared; then it was worked at, its trails are those of its first runs, and the watchers were
+-- told these runs, each whole and in order
+pub record EndsWithJob (form : Option Form) (chance : ℕ) (watching told : List WatcherState) (old new : State)
     (status : Status) (trails : List RunTrail) (job : Job) : Type 0 where
   pub between : State
   pub prepared : Prepared form chance old between job
-  pub worked : Worked job trails no_reports between new status
+  pub worked : Worked job trails (reports_of told) between new status
   pub runs : AreTrails job trails
   pub few : length trails ≤ job.params.reps
+  pub watchers : AreTold job trails watching told
 
--- without a job: nothing was done for one, and there are no trails
-pub record EndsWithoutJob (form : Option Form) (old new : State)
+-- without a job: nothing was done for one, there are no trails, and the watchers were told nothing
+pub record EndsWithoutJob (form : Option Form) (watching told : List WatcherState) (old new : State)
     (status : Status) (trails : List RunTrail) : Type 0 where
   pub refused : NotPrepared form old new status
   pub none : trails ≡ []
+  pub watchers : told ≡ watching
 
-abbrev pub EndsAs : Option Form → ℕ → State → State → Status → List RunTrail → Option Job → Type 0
-EndsAs form chance old new status trails (Some job) = EndsWithJob form chance old new status trails job
-EndsAs form chance old new status trails None = EndsWithoutJob form old new status trails
+abbrev pub EndsAs : Option Form → ℕ → List WatcherState → List WatcherState → State → State → Status
+    → List RunTrail → Option Job → Type 0
+EndsAs form chance watching told old new status trails (Some job) =
+    EndsWithJob form chance watching told old new status trails job
+EndsAs form chance watching told old new status trails None =
+    EndsWithoutJob form watching told old new status trails
 
--- a whole run of the program: what was done before the refusal is said, and then the refusal
-pub record RunsProgram (form : Option Form) (chance : ℕ) (old new : State) (finished : Finished) : Type 0 where
+-- a whole run of the program, with the watchers as they were and as they are: what was done before the refusal is
+-- said, and then the refusal
+pub record RunsProgram (form : Option Form) (chance : ℕ) (watching told : List WatcherState) (old new : State)
+    (finished : Finished) : Type 0 where
   pub before : State
-  pub ends : EndsAs form chance old before finished.status finished.trails finished.job
+  pub ends : EndsAs form chance watching told old before finished.status finished.trails finished.job
   pub refusal : Refuses finished.status before new
 
 -- a good end leaves all counts of the shelf as they were, and so does want of memory
@@ -88,10 +94,12 @@ abbrev pub Completes : Form → State → State → Status → Type 0
 Completes form old new status = IsAcceptedInput form old → NoneRose old new → IsDoneOrNoMemory status
 
 -- a job was worked at, and what came of it was said
-pub record RunsJob (job : Job) (old new : State) (finished : Finished) : Type 0 where
+pub record RunsJob (job : Job) (watching told : List WatcherState) (old new : State) (finished : Finished)
+    : Type 0 where
   pub before : State
-  pub worked : Worked job finished.trails no_reports old before finished.status
+  pub worked : Worked job finished.trails (reports_of told) old before finished.status
   pub runs : AreTrails job finished.trails
   pub few : length finished.trails ≤ job.params.reps
+  pub watchers : AreTold job finished.trails watching told
   pub refusal : Refuses finished.status before new
   pub same_job : finished.job ≡ Some job

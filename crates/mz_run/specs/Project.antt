@@ -2,6 +2,8 @@
 use Rattle.std.specs.Prelude.{ℕ, List, Ok}
 use Rattle.mz_shelf.specs.State.{Files, State}
 use Rattle.mz_params.specs.declared.params.Params.{Params}
+use Rattle.mz_gen.specs.declared.fault.GenFault.{GenFault}
+use Rattle.mz_gen.specs.declared.fault.GenFault.TheVariants as made
 use Rattle.mz_model.specs.declared.parts.Parts.{Parts}
 use Rattle.mz_project.specs.declared.fault.ReadFault.{ReadFault}
 use Rattle.mz_project.specs.declared.fault.ReadFault.TheVariants as fault
@@ -34,6 +36,11 @@ status_of_read (fault.Shelf name) = ShelfFault name
 status_of_read (fault.Absent name) = Absent name
 status_of_read (fault.Input f) = Input f
 status_of_read fault.NoMemory = NoMemory
+
+-- the status of a project that wasn't made whole
+abbrev pub status_of_made : GenFault → Status
+status_of_made (made.Shelf name) = ShelfFault name
+status_of_made made.NoMemory = NoMemory
 
 -- why the input gave no project
 abbrev pub InputStopped : {X : Type 0} → (Files → Reads X) → State → State → Status → Type 0

@@ -1,5 +1,5 @@
 -- What the runs of a job leave, one after another.
-use Rattle.std.specs.Prelude.{◌≡◌, ◌<◌, ◌≤◌, ℕ, if◌then◌else◌, nat_lt, List, [], ◌∷◌, ◌++◌, length, Option, Some, None}
+use Rattle.std.specs.Prelude.{◌≡◌, ◌-◌, ◌<◌, ◌≤◌, ℕ, if◌then◌else◌, nat_lt, slice_index, List, [], ◌∷◌, ◌++◌, length, Option, Some, None}
 use Rattle.mz_shelf.specs.State.{State}
 use Rattle.mz_shelf.specs.Chain.{DidAll}
 use Rattle.mz_shelf.specs.Performed.{Stopped}
@@ -8,19 +8,20 @@ use Rattle.mz_shelf.specs.declared.stop.Stop.TheVariants.{NoMemory}
 use Rattle.mz_model.specs.Plans.{IsLegalPlan}
 use Rattle.mz_model.specs.Scores.{score_of_plan}
 use Rattle.mz_delta.specs.Reading.{totals_of_plan}
+use Rattle.mz_sums.specs.Best.{best_of}
 use Rattle.mz_sums.specs.Sums.{sums_of}
 use Rattle.mz_run.specs.declared.job.Job.{Job}
 use Rattle.mz_files.specs.declared.trail.RunTrail.{RunTrail}
 use Rattle.mz_run.specs.declared.runs.BestRun.{BestRun}
 use Rattle.mz_run.specs.declared.counted.Counted.{Counted}
-use Rattle.mz_run.specs.Acts.{acts_of_trails, plan_of_run, plans_of, run_acts, scores_of, summary_row, summary_rows}
-use Rattle.mz_run.specs.Best.{Best, best_of}
+use Rattle.mz_run.specs.Acts.{acts_of_trails, plan_of_run, plans_of, run_acts, summary_row, summary_rows, totals_of_runs}
+use Rattle.mz_run.specs.Best.{Best}
 use Rattle.mz_run.specs.Run.{final_plan}
 use Rattle.mz_run.specs.Trail.{AreTrails, IsTrail}
 
 -- a run that is kept, without its plan
 abbrev pub best_in : BestRun → Best
-best_in kept = record { run = kept.run; score = kept.score }
+best_in kept = record { run = kept.run; total = kept.score.total }
 
 -- the run that is kept of two
 abbrev pub better_run : Option BestRun → BestRun → BestRun
@@ -29,7 +30,8 @@ better_run (Some kept) last = if nat_lt last.score.total kept.score.total then l
 
 -- the best of these runs is kept with its plan
 pub record IsBestRun (job : Job) (trails : List RunTrail) (kept : BestRun) : Type 0 where
-  pub best : best_of (scores_of trails) ≡ Some (best_in kept)
+  pub best : best_of (totals_of_runs trails) ≡ Some (kept.run - 1)
+  pub total : slice_index (totals_of_runs trails) (kept.run - 1) ≡ kept.score.total
   pub from_one : 1 ≤ kept.run
   pub within : kept.run ≤ length trails
   pub plan_is : kept.plan ≡ plan_of_run job trails kept.run
@@ -38,7 +40,7 @@ pub record IsBestRun (job : Job) (trails : List RunTrail) (kept : BestRun) : Typ
   pub score_is : kept.score ≡ score_of_plan job.problem kept.plan
 
 abbrev pub KeepsBest : Job → List RunTrail → Option BestRun → Type 0
-KeepsBest job trails None = best_of (scores_of trails) ≡ None
+KeepsBest job trails None = trails ≡ []
 KeepsBest job trails (Some kept) = IsBestRun job trails kept
 
 -- what is counted over these runs: a summary row for each, and how many of their plans give each unit each zone

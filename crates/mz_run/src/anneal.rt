@@ -5,7 +5,7 @@ ghost use Rattle.mz_params.specs.ParamFile.{IsAccepted};
 ghost use Rattle.mz_history.specs.Core.{seats_of};
 ghost use Rattle.mz_run.specs.Arguments.{AreWorkers};
 ghost use Rattle.mz_run.specs.End.{IsEnd};
-ghost use Rattle.mz_run.specs.Run.{annealed_plan, anneals};
+ghost use Rattle.mz_run.specs.Run.{annealed_plan, anneals, entries_of_run};
 
 use crate::job::Job;
 use crate::run_end::RunEnd;
@@ -50,7 +50,19 @@ pub(crate) fn anneal<R: Threads + Wait + Sync, G: Gate + Sync>(
         plan,
         totals,
         score,
+        journal,
     })
+}
+
+/// How many entries each run of a job has.
+pub(crate) fn entries_of(job: &Job) -> u32
+    ensures { result ≡ entries_of_run job.now }
+{
+    if anneals(job) {
+        job.params.iterations
+    } else {
+        0
+    }
 }
 
 /// Whether the runs of a job have entries.
@@ -75,6 +87,7 @@ fn at_rest(alloc: Global, job: &Job, run: u32) -> Result<RunEnd, NoMemory>
         plan,
         totals,
         score,
+        journal: Vec::new(alloc),
     })
 }
 

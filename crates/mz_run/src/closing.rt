@@ -1,6 +1,7 @@
 //! What comes behind the last run.
-ghost use Rattle.std.specs.Prelude.{◌≡◌, ◌<◌, ◌^◌, length};
+ghost use Rattle.std.specs.Prelude.{◌≡◌};
 ghost use Rattle.std.specs.List.{All};
+ghost use Rattle.mz_params.specs.ParamFile.{IsAccepted};
 ghost use Rattle.mz_model.specs.Plans.{IsLegalPlan};
 ghost use Rattle.mz_model.specs.Scores.{score_of_plan};
 ghost use Rattle.mz_delta.specs.Reading.{totals_of_plan};
@@ -31,15 +32,15 @@ pub(crate) fn close<S: Shelf>(
     best: &BestRun,
     reports: &[u64],
 ) -> Result<(), Stop>
-    // The best run's plan with its own totals and score.
+    // The job's parameters, and the best run's plan with its own totals and score.
+    requires accepted { IsAccepted job.now.params }
     requires legal { IsLegalPlan job.now.problem best.now.plan }
     requires own_totals { best.now.totals.items ≡ totals_of_plan job.now.problem best.now.plan }
     requires own_score { best.now.score ≡ score_of_plan job.now.problem best.now.plan }
 
-    // What was counted over all runs, and the reports.
+    // What was counted over all runs.
     requires counted { HasCounted job.now trails.now counted.now }
     requires seats { All (λ (trail : RunTrail). AreSeats trail.turns) trails.now }
-    requires few { length reports.now < 2 ^ 32 }
 
     // The acts of the closing.
     ensures { Performed (best_acts job.now trails.now reports.now (best_in best.now) best.now.plan)
@@ -70,16 +71,16 @@ fn close_runs<S: Shelf>(
     best: &BestRun,
     reports: &[u64],
 ) -> Result<(), Stop>
+    requires accepted { IsAccepted job.now.params }
     requires counted { HasCounted job.now trails.now counted.now }
     requires seats { All (λ (trail : RunTrail). AreSeats trail.turns) trails.now }
-    requires few { length reports.now < 2 ^ 32 }
     ensures { Performed (all_runs_acts job.now trails.now reports.now (best_in best.now))
         (S.state shelf.old) (S.state shelf.new) result }
 {
     write_summary(alloc, shelf, job, trails, counted)?;
     write_summed(alloc, shelf, job, trails, counted)?;
     write_turns(alloc, shelf, job, trails)?;
-    let line = closing_line(alloc, best, reports)?;
+    let line = closing_line(alloc, job, best, reports)?;
     say(alloc, shelf, &line)
 }
 

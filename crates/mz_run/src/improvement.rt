@@ -32,6 +32,7 @@ pub(crate) fn improved(
         mut plan,
         mut totals,
         mut score,
+        journal,
     } = annealed;
     improve(
         &job.problem,
@@ -46,6 +47,7 @@ pub(crate) fn improved(
         plan,
         totals,
         score,
+        journal,
     })
 }
 

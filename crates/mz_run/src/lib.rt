@@ -18,6 +18,7 @@ mod plan_files;
 mod preparation;
 mod program;
 mod refusal;
+mod reports;
 mod row_refusal;
 mod run_end;
 mod run_outputs;

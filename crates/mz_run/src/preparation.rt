@@ -1,19 +1,22 @@
 //! From the words to a job.
-ghost use Rattle.std.specs.Prelude.{MatchResult, IfOk};
+ghost use Rattle.std.specs.Prelude.{◌≤◌, MatchResult, IfOk};
+ghost use Rattle.mz_num.specs.Limits.{greatest_id};
 ghost use Rattle.mz_params.specs.ParamFile.{IsAccepted};
 ghost use Rattle.mz_run.specs.Arguments.{AreWorkers, form_of};
-ghost use Rattle.mz_run.specs.Arguments.Form.{File};
-ghost use Rattle.mz_run.specs.Prepared.{IsInputStopped, IsPrepared, NotPrepared, Prepared};
+ghost use Rattle.mz_run.specs.Arguments.Form.{Generated};
+ghost use Rattle.mz_run.specs.Prepared.{IsAcceptedJob, IsInputStopped, IsPrepared, NotPrepared, Prepared};
+ghost use Rattle.mz_run.specs.Project.{InputStopped, asked_of};
 
-use crate::arguments::{Form, read_words};
+use crate::arguments::{Form, USUAL_FILE, USUAL_WORKERS, read_words};
 use crate::job::Job;
 use crate::status::Status;
+use mz_gen::make_files;
 use mz_project::{read_params, read_project};
 use mz_shelf::Shelf;
 use std::alloc::Global;
 
-/// Reads the words, and the project that they ask for. Nothing is written or said; a refusal is never `Done`.
-/// The random seed is RANDSEED, or `chance` where that is negative or not given.
+/// Reads the words, makes the project that they ask for where it is one to be made, and reads it. Nothing is said; a
+/// refusal is never `Done`. The random seed is RANDSEED, or `chance` where that is negative or not given.
 pub fn prepare<S: Shelf>(
     alloc: Global,
     words: &[String],
@@ -28,22 +31,45 @@ pub fn prepare<S: Shelf>(
 {
     match read_words(words) {
         Form::Unknown => Err(Status::Words),
-        Form::File(file, workers) => prepare_file(alloc, shelf, file, workers, chance),
+        Form::File(file, workers) => read_job(alloc, shelf, file, workers, None, chance),
+        Form::Generated(number) => make_job(alloc, shelf, number, chance),
     }
 }
 
-/// Reads a project in files of its own.
-fn prepare_file<S: Shelf>(
+/// Makes the project of a number, and reads it.
+fn make_job<S: Shelf>(alloc: Global, shelf: &mut S, number: u32, chance: u64) -> Result<Job, Status>
+    requires { number ≤ greatest_id }
+    ensures ends { MatchResult result
+        (λ job. IsPrepared (Generated number) chance (S.state shelf.old) (S.state shelf.new) job)
+        (λ status. IsInputStopped (Generated number) (S.state shelf.old) (S.state shelf.new) status) }
+    ensures accepted { IfOk result (λ job. IsAccepted job.params) }
+    ensures workers { IfOk result (λ job. AreWorkers job.workers) }
+{
+    make_files(alloc, shelf, number)?;
+    let job = read_job(
+        alloc,
+        shelf,
+        USUAL_FILE,
+        USUAL_WORKERS,
+        Some(number),
+        chance,
+    )?;
+    Ok(job)
+}
+
+/// Reads a project by its parameter file.
+fn read_job<S: Shelf>(
     alloc: Global,
     shelf: &mut S,
     file: &str,
     workers: u8,
+    generated: Option<u32>,
     chance: u64,
 ) -> Result<Job, Status>
     requires { AreWorkers workers }
     ensures ends { MatchResult result
-        (λ job. IsPrepared (File file.now workers) chance (S.state shelf.old) (S.state shelf.new) job)
-        (λ status. IsInputStopped (File file.now workers) (S.state shelf.old) (S.state shelf.new) status) }
+        (λ job. IsAcceptedJob file.now workers generated chance (S.state shelf.old) (S.state shelf.new) job)
+        (λ status. InputStopped (asked_of file.now) (S.state shelf.old) (S.state shelf.new) status) }
     ensures accepted { IfOk result (λ job. IsAccepted job.params) }
     ensures workers { IfOk result (λ job. AreWorkers job.workers) }
 {
@@ -55,6 +81,6 @@ fn prepare_file<S: Shelf>(
         params,
         workers,
         seed,
-        generated: None,
+        generated,
     })
 }

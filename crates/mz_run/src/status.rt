@@ -1,8 +1,9 @@
 //! How a run of the program ends.
 ghost use Rattle.std.specs.Prelude.{◌≡◌};
-ghost use Rattle.mz_run.specs.Project.{status_of_read};
+ghost use Rattle.mz_run.specs.Project.{status_of_made, status_of_read};
 ghost use Rattle.mz_run.specs.Refusal.{code_of};
 
+use mz_gen::GenFault;
 use mz_num::Text;
 use mz_project::{InputFault, ReadFault};
 
@@ -46,6 +47,17 @@ impl From<ReadFault> for Status {
             ReadFault::Absent(name) => Status::Absent(name),
             ReadFault::Input(fault) => Status::Input(fault),
             ReadFault::NoMemory => Status::NoMemory,
+        }
+    }
+}
+
+impl From<GenFault> for Status {
+    ghost from_gives = { λ fault status. status ≡ status_of_made fault };
+
+    fn from(fault: GenFault) -> Status {
+        match fault {
+            GenFault::Shelf(name) => Status::ShelfFault(name),
+            GenFault::NoMemory => Status::NoMemory,
         }
     }
 }

@@ -18,4 +18,6 @@ mod targets;
 #[cfg(test)]
 mod texts;
 #[cfg(test)]
+mod watchers;
+#[cfg(test)]
 mod words;

@@ -172,6 +172,32 @@ fn turns_of_one_worker_are_written(rt: HostRuntime) -> Result<(), Fail> {
     Ok(())
 }
 
+/// Worked out by a script, from the rules and by whole sums.
+const COOLED: &[u8] = b"planning_unit,zone
+1,1
+2,1
+3,2
+score,37.0000
+cost,30.0000
+boundary,7.0000
+penalty,0.0000
+shortfall,0.0000
+";
+
+#[test]
+fn a_drawn_start_is_cooled_over_three_levels(rt: HostRuntime) -> Result<(), Fail> {
+    let lines = b"NUMITNS 20
+STARTTEMP 30
+COOLFAC 0.9
+NUMTEMP 3
+PROP 0.5
+RUNMODE 6
+SAVEBEST 3
+";
+    assert!(rt; leaves(&rt, lines, &[("output_best.csv", COOLED)])?);
+    Ok(())
+}
+
 const LOCKED_SAID: &[u8] = b"seed 7
 units 3 zones 2 targets 1 free 0
 run 1 score 37.0000 entries 0

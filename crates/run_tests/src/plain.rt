@@ -125,7 +125,8 @@ pub(crate) fn run(
 // Without a clause a run and a job are any to the tests' proofs.
 
 fn finished(rt: &impl Host, words: &[String], shelf: &mut impl Shelf) -> Finished {
-    marzone(rt, rt.alloc(), words, 0, shelf, &OpenGate)
+    let mut watchers = Vec::new(rt.alloc());
+    marzone(rt, rt.alloc(), words, 0, shelf, &OpenGate, &mut watchers)
 }
 
 fn job_of(alloc: Global, words: &[String], shelf: &mut MemShelf) -> Result<Job, Status> {
@@ -305,7 +306,7 @@ fn the_best_file_stands_before_the_last_line(rt: HostRuntime) -> Result<(), Fail
 fn said_of_words(rt: &impl Host) -> Result<Vec<u8>, Fail> {
     let alloc = rt.alloc();
     let mut shelf = project(alloc, &[0], 4)?;
-    let _ = run(rt, &words(alloc, "gen", "1")?, &mut shelf)?;
+    let _ = run(rt, &words(alloc, "gen", "x")?, &mut shelf)?;
     Ok(Vec::from_slice(alloc, shelf.said())?)
 }
 

@@ -1,4 +1,4 @@
-use Rattle.std.proofs.Common.{◌≡◌, ap, ◌∙◌, length, rules}
+use Rattle.std.proofs.Common.{ap, ◌∙◌, length, rules}
 use Rattle.mz_run.proofs.CountLemmas.{length-totals, row-is}
 use Rattle.mz_run.proofs.counted.summary_row.Goals as goal
 
