@@ -1,58 +1,41 @@
--- The acceptance of a rise, past the staircase and on it.
-use Rattle.std.proofs.Common.{◌≡◌, ℕ, ◌+◌, ◌-◌, ◌*◌, ◌/◌, ◌<◌, ◌≤◌, true, false, refl, arith, add-one, ap, ◌∙◌, ℤ, pos}
-use Rattle.std.proofs.Common.{List, get_or, SFits, of_z, to_z}
+-- The acceptance of a change of score, by the steps that stand above the word.
+use Rattle.std.proofs.Common.{◌≡◌, ℕ, ◌*◌, ◌/◌, ◌<◌, ◌≤◌, true, false, refl, arith, ap, sym, ◌∙◌, inl, inr, ℤ, pos, SFits, of_z, to_z}
 use Rattle.std.specs.Int.{w128}
 use Rattle.std.specs.Prelude.{nat_lt, int_le, unsigned_abs}
-use Rattle.std.proofs.Math.Nat.{div-lt_iff_lt-mul}
-use Rattle.mz_cool.specs.Table.{IsTable}
-use Rattle.mz_cool.proofs.TableLemmas.{IsTable-read}
+use Rattle.std.proofs.Math.Nat.{div-lt_iff_lt-mul, le-div_iff_mul-le}
+use Rattle.std.proofs.lemmas.Bool.Decides.{leb_tells}
 use Rattle.std.proofs.lemmas.Int.{to_z-of_z}
-use Rattle.std.proofs.lemmas.Nat.{le-div}
-use Rattle.mz_cool.specs.Acceptance.{descent, staircase, is_accepted}
+use Rattle.mz_cool.specs.Acceptance.{AreStepsAbove, is_accepted}
 
--- the top
-pub descent-zero : 4294967296 ≡ descent 0
-unfolding descent
-descent-zero = refl
+-- a quotient is below a bound where the dividend is below so many divisors
+below-as : (n t bound : ℕ) → 1 ≤ t → nat_lt n (bound * t) ≡ nat_lt (n / t) bound
+below-as n t bound positive = elim (leb_tells (bound * t) n) [
+  | inl past ↦
+      let far : bound ≤ n / t = (le-div_iff_mul-le positive).1 past.1 in
+      grind (arith, past.1, far)
+  | inr below ↦
+      let near : n / t < bound = (div-lt_iff_lt-mul positive).1 (omega (arith, below.1)) in
+      grind (arith, below.1, near)
+]
 
--- the next step
-pub descent-next : (n height : ℕ) → height ≡ descent n → height - height / 64 ≡ descent (n + 1)
-unfolding descent
-descent-next n height is = rw (add-one, ← is) refl
-
--- a rise past the last step is refused
-past : (d : ℤ) (t word : ℕ) → int_le d (pos 0) ≡ false → 1 ≤ t → 1408 * t ≤ 64000 * unsigned_abs d
-    → false ≡ is_accepted d t word
-unfolding is_accepted staircase
-past d t word risen positive high =
-    let far : 1408 ≤ 64000 * unsigned_abs d / t = le-div _ _ _ positive high in
-    let stops : nat_lt (64000 * unsigned_abs d / t) 1408 ≡ false = grind arith in
-    rw (risen, stops) (grind arith)
-
--- on a step, the word decides
-step : (d : ℤ) (t word height : ℕ) → int_le d (pos 0) ≡ false → 64000 * unsigned_abs d / t < 1408
-    → height ≡ descent (64000 * unsigned_abs d / t) → nat_lt word height ≡ is_accepted d t word
-unfolding is_accepted staircase
-step d t word height risen near is =
-    let within : nat_lt (64000 * unsigned_abs d / t) 1408 ≡ true = grind arith in
-    rw (risen, within) (ap (nat_lt word) is)
-
-pub is_accepted-past : (d : ℤ) (t word size : ℕ) → SFits w128 d → int_le (to_z w128 (of_z w128 d)) (pos 0) ≡ false
-    → size ≡ unsigned_abs (to_z w128 (of_z w128 d)) → 1 ≤ t → 1408 * t ≤ 64000 * size
-    → false ≡ is_accepted d t word
-is_accepted-past d t word size fits risen size-is positive high =
+-- a rise is accepted where it is below so many temperatures as steps stand above the word
+pub is_accepted-below : (d : ℤ) (t word steps held size : ℕ) → SFits w128 d → 1 ≤ t
+    → int_le (to_z w128 (of_z w128 d)) (pos 0) ≡ false → size ≡ unsigned_abs (to_z w128 (of_z w128 d))
+    → held ≡ steps → AreStepsAbove word steps → nat_lt (64000 * size) (held * t) ≡ is_accepted d t word
+unfolding is_accepted
+is_accepted-below d t word steps held size fits positive risen size-is held-is are =
     let same = to_z-of_z w128 d fits in
     let size-at : size ≡ unsigned_abs d = size-is ∙ ap unsigned_abs same in
-    past d t word (rw same at risen) positive (rw size-at at high)
+    let up : int_le d (pos 0) ≡ false = rw same at risen in
+    let told = are (64000 * unsigned_abs d / t) in
+    let meet = below-as (64000 * unsigned_abs d) t steps positive in
+    rw (held-is, size-at, up) (meet ∙ sym told)
 
-pub is_accepted-step : (d : ℤ) (t word size held height : ℕ) (heights : List ℕ) → SFits w128 d
-    → int_le (to_z w128 (of_z w128 d)) (pos 0) ≡ false → size ≡ unsigned_abs (to_z w128 (of_z w128 d)) → 1 ≤ t
-    → 64000 * size < 1408 * t → IsTable descent 1408 heights → held ≡ word
-    → height ≡ get_or heights (64000 * size / t) height → nat_lt held height ≡ is_accepted d t word
-is_accepted-step d t word size held height heights fits risen size-is positive low table held-is read =
+-- at most 0 is accepted
+pub is_accepted-fallen : (d : ℤ) (t word : ℕ) → SFits w128 d → int_le (to_z w128 (of_z w128 d)) (pos 0) ≡ true
+    → int_le (to_z w128 (of_z w128 d)) (pos 0) ≡ is_accepted d t word
+unfolding is_accepted
+is_accepted-fallen d t word fits fallen =
     let same = to_z-of_z w128 d fits in
-    let size-at : size ≡ unsigned_abs d = size-is ∙ ap unsigned_abs same in
-    let near : 64000 * size / t < 1408 = (div-lt_iff_lt-mul positive).1 low in
-    let is : height ≡ descent (64000 * size / t) = IsTable-read descent 1408 heights _ height table near read in
-    ap (λ (w : ℕ). nat_lt w height) held-is
-    ∙ step d t word height (rw same at risen) (rw size-at at near) (rw size-at at is)
+    let down : int_le d (pos 0) ≡ true = rw same at fallen in
+    fallen ∙ rw down refl

@@ -1,4 +1,6 @@
 pub mod AcceptanceLemmas
 pub mod AdaptiveLemmas
+pub mod LevelLemmas
 pub mod ScheduleLemmas
+pub mod StepLemmas
 pub mod TableLemmas

@@ -1,4 +1,6 @@
 pub mod Acceptance
 pub mod Adaptive
+pub mod Level
 pub mod Schedule
+pub mod Starts
 pub mod Table

@@ -2,10 +2,12 @@
 #![tactic(auto)]
 
 mod adaptive;
+mod level;
 mod schedule;
 mod stairs;
 #[cfg(test)]
 mod tests;
 
+pub use level::Level;
 pub use schedule::Schedule;
-pub use stairs::Stairs;
+pub use stairs::{Stairs, accepts_on};

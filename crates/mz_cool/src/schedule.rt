@@ -1,8 +1,10 @@
 //! The temperatures of a history.
-ghost use Rattle.std.specs.Prelude.{◌≡◌, ◌*◌, ◌/◌, ◌^◌, ◌<◌, ◌≤◌, max, IfOk};
+ghost use Rattle.std.specs.Prelude.{◌≡◌, ℕ, ◌*◌, ◌/◌, ◌^◌, ◌<◌, ◌≤◌, max, IfOk};
 ghost use Rattle.mz_cool.specs.Table.{IsTable};
+ghost use Rattle.mz_cool.specs.Level.{IsLevelFrom};
 ghost use Rattle.mz_cool.specs.Schedule.{temperature_of_level, temperature_at};
 
+use crate::level::Level;
 use mz_num::NoMemory;
 use std::alloc::Global;
 use std::marker::Model;
@@ -78,6 +80,23 @@ impl Schedule {
     {
         let level = u64::from(position) * u64::from(self.levels) / u64::from(self.limit);
         self.temperatures[level as usize]
+    }
+
+    /// The temperature of the entry at a position, and up to which position it stays.
+    pub fn level_at(&self, position: u32) -> Level
+        requires { position < self.now.limit }
+        ensures level { IsLevelFrom self.now position result }
+        ensures here { position < result.end }
+        ensures next { (p : ℕ) → result.end ≤ p
+            → position * self.now.levels / self.now.limit < p * self.now.levels / self.now.limit }
+    {
+        let limit = u64::from(self.limit);
+        let levels = u64::from(self.levels);
+        let level = u64::from(position) * levels / limit;
+        Level {
+            temperature: self.temperatures[level as usize],
+            end: ((level + 1) * limit).div_ceil(levels) as u32,
+        }
     }
 }
 

@@ -1,4 +1,4 @@
-use crate::{Schedule, Stairs};
+use crate::{Level, Schedule, Stairs, accepts_on};
 use std::test::Fail;
 
 const GREATEST_CHANGE: i128 = 10_000_000_000_000_000_000_000_000;
@@ -14,6 +14,27 @@ fn changes_are_accepted_by_the_staircase(rt: HostRuntime) -> Result<(), Fail> {
     assert!(rt; stairs.accepts(21, 1000, 0));
     assert!(rt; stairs.accepts(0, 1, 4_294_967_295));
     assert!(rt; stairs.accepts(-1, 1, 4_294_967_295));
+    Ok(())
+}
+
+#[test]
+fn steps_above_a_word_are_counted(rt: HostRuntime) -> Result<(), Fail> {
+    let stairs = Stairs::make(rt.alloc())?;
+    assert_eq!(rt; stairs.steps_above(4_294_967_295), 1);
+    assert_eq!(rt; stairs.steps_above(4_227_858_432), 1);
+    assert_eq!(rt; stairs.steps_above(4_227_858_431), 2);
+    assert_eq!(rt; stairs.steps_above(0), 1408);
+    Ok(())
+}
+
+#[test]
+fn changes_are_accepted_by_the_steps_above_a_word(rt: HostRuntime) -> Result<(), Fail> {
+    assert!(rt; accepts_on(2, 1, 64_000));
+    assert!(rt; !accepts_on(1, 1, 64_000));
+    assert!(rt; !accepts_on(1408, 22, 1000));
+    assert!(rt; accepts_on(1408, 21, 1000));
+    assert!(rt; accepts_on(1, 0, 1));
+    assert!(rt; accepts_on(1, -1, 1));
     Ok(())
 }
 
@@ -40,6 +61,18 @@ fn a_fixed_schedule_halves_over_four_levels(rt: HostRuntime) -> Result<(), Fail>
     assert!(rt; schedule.at(5) == 1_250_000);
     assert!(rt; schedule.at(6) == 625_000);
     assert!(rt; schedule.at(7) == 625_000);
+    Ok(())
+}
+
+#[test]
+fn a_level_ends_where_the_next_begins(rt: HostRuntime) -> Result<(), Fail> {
+    let schedule = Schedule::fixed(rt.alloc(), 5_000_000, 500_000_000, 4, 8)?;
+    assert!(rt; schedule.level_at(0).temperature == 5_000_000);
+    assert_eq!(rt; schedule.level_at(0).end, 2);
+    assert_eq!(rt; schedule.level_at(1).end, 2);
+    assert!(rt; schedule.level_at(7).temperature == 625_000);
+    assert_eq!(rt; schedule.level_at(7).end, 8);
+    assert_eq!(rt; Level::OVER.end, 0);
     Ok(())
 }
 

@@ -1,8 +1,8 @@
 use Rattle.std.proofs.Common.{arith}
 use Rattle.mz_cool.specs.Acceptance.{descent}
-use Rattle.mz_cool.proofs.AcceptanceLemmas.{descent-zero, descent-next}
+use Rattle.mz_cool.proofs.StepLemmas.{descent-zero, descent-next}
 use Rattle.mz_cool.proofs.TableLemmas.{IsTable-none, IsTable-more, IsTable-whole}
-use Rattle.mz_cool.proofs.stairs.Stairs.make.Goals as goal
+use Rattle.mz_cool.proofs.stairs.heights.Goals as goal
 
 pub loop-step-init : goal.loop-step-init
 loop-step-init c = record {
@@ -16,5 +16,5 @@ loop-step-preserved c = record {
   table = IsTable-more _ _ _ _ _ c.loop-step.invariant.table c.loop-step.invariant.height c.in_ok-push.ensures.items;
 }
 
-pub invariant_of-result : goal.invariant_of-result
-invariant_of-result c = IsTable-whole _ _ _ _ c.loop-step.invariant.table (omega arith)
+pub returns : goal.returns
+returns c = IsTable-whole _ _ _ _ c.loop-step.invariant.table (omega arith)
