@@ -1,6 +1,7 @@
 pub mod ApplyLaws
 pub mod CommitLaws
 pub mod KeptLaws
+pub mod LevelLaws
 pub mod MoveRowLaws
 pub mod ReachLaws
 pub mod ReadingLaws

@@ -1,7 +1,10 @@
 -- What contracts see of a kept state, and what its type keeps.
-use Rattle.std.specs.Prelude.{◌≡◌, ◌≤◌, ℕ, List}
+use Rattle.std.specs.Prelude.{◌≡◌, ◌<◌, ◌≤◌, ℕ, List}
 use Rattle.mz_num.specs.Limits.{most_proposals, most_runs, most_workers}
 use Rattle.mz_num.specs.Places.{list_below}
+use Rattle.mz_cool.specs.declared.level.Level.{Level}
+use Rattle.mz_cool.specs.Level.{IsLevelFrom}
+use Rattle.mz_cool.specs.Schedule.{Cooling}
 use Rattle.mz_model.specs.declared.score.Score.{Score}
 use Rattle.mz_model.specs.Items.{row_item, unit_item}
 use Rattle.mz_model.specs.Parts.{target_count, unit_count}
@@ -54,3 +57,8 @@ pub record Keeps
   pub kept : IsKept k
   pub agrees : AgreesWithJournal k draws plan totals score units rows last
   pub room_is : k.limit ≤ room
+
+-- the level is that of the position, where the journal may still have an entry there
+pub record KnowsLevel (cooling : Cooling) (limit position : ℕ) (level : Level) : Type 0 where
+  pub from : IsLevelFrom cooling position level
+  pub here : position < limit → position < level.end

@@ -1,5 +1,5 @@
 -- Where a run stands, and the moves that can be made there.
-use Rattle.std.specs.Prelude.{◌≡◌, ◌<◌, ◌≤◌, ◌^◌, ℕ, ℤ, pos, ◌-ℤ◌, IsTrue, List, slice_index}
+use Rattle.std.specs.Prelude.{◌≡◌, ◌<◌, ◌≤◌, ℕ, ℤ, pos, ◌-ℤ◌, IsTrue, List, slice_index}
 use Rattle.mz_num.specs.Limits.{greatest_score}
 use Rattle.mz_model.specs.declared.parts.Parts.{Parts}
 use Rattle.mz_model.specs.declared.score.Score.{Score}

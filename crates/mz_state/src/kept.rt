@@ -2,6 +2,7 @@
 ghost use Rattle.std.specs.Prelude.{◌≡◌, ◌<◌, ◌≤◌, ◌==◌, ◌++◌, ◌∷◌, [], IfOk, length};
 ghost use Rattle.mz_num.specs.Limits.{most_runs, most_workers};
 ghost use Rattle.mz_model.specs.Parts.{unit_count};
+ghost use Rattle.mz_cool.specs.Acceptance.{AreStepsAbove};
 ghost use Rattle.mz_delta.specs.Reading.{IsWellFormed};
 ghost use Rattle.mz_delta.specs.Rooms.{FitsReading};
 ghost use Rattle.mz_history.specs.Core.{entry_of_seat, seats_of};
@@ -16,7 +17,9 @@ ghost use Rattle.mz_state.specs.NextMove.{IsNextMove};
 use crate::closed::Closed;
 use crate::receipt::Receipt;
 use crate::standing::Standing;
+use crate::temperature::level_after;
 use crate::versions::position_past;
+use mz_cool::{Level, accepts_on};
 use mz_delta::{Judged, Reading, read_plan};
 use mz_history::{Entry, Rules, start};
 use mz_model::Problem;
@@ -39,12 +42,14 @@ pub struct Kept {
     /// The number of each seat's next draw.
     draws: Vec<u64>,
     standing: Standing,
+    /// The level of the next entry.
+    level: Level,
 }
 
 impl Model for Kept {
     ghost use Rattle.std.specs.Prelude.{length, vec_capacity};
     ghost use Rattle.mz_history.specs.Rules.{setting_with};
-    ghost use Rattle.mz_state.specs.Kept.{Keeps, KeptState};
+    ghost use Rattle.mz_state.specs.Kept.{Keeps, KeptState, KnowsLevel};
 
     ghost Value = { KeptState };
 
@@ -62,7 +67,8 @@ impl Model for Kept {
       journal = k.journal.items;
     })
         k.draws.items k.standing.plan k.standing.totals.items k.standing.score
-        k.standing.units.items k.standing.rows.items k.standing.last (vec_capacity k.journal) };
+        k.standing.units.items k.standing.rows.items k.standing.last (vec_capacity k.journal)
+        × KnowsLevel (setting_with k.problem.value k.rules.value k.seed k.run).cooling k.limit (length k.journal.items) k.level };
 }
 
 impl Kept {
@@ -78,17 +84,19 @@ impl Kept {
         requires rules { IsRules rules.now }
         requires runs { run ≤ most_runs }
         requires workers { seats ≤ most_workers }
-        ensures { IfOk result (λ kept. kept ≡ record {
+        ensures opened { IfOk result (λ kept. kept ≡ record {
           setting = setting_with problem.now rules.now seed run;
           limit = rules.now.limit;
           seats = seats;
           journal = [];
         }) }
+        ensures kept { IfOk result IsKept }
     {
         let plan = start(alloc, problem, rules.prop, seed, run)?;
         let standing = Standing::of(alloc, problem, plan)?;
         let journal = Vec::with_capacity(alloc, rules.limit as usize)?;
         let draws = vec![in alloc; 0; seats as usize]?;
+        let level = level_after(Level::OVER, &rules.schedule, rules.limit, 0);
         Ok(Kept {
             problem: Snapshot::of(problem),
             rules: Snapshot::of(rules),
@@ -98,6 +106,7 @@ impl Kept {
             journal,
             draws,
             standing,
+            level,
         })
     }
 
@@ -181,15 +190,46 @@ impl Kept {
         ensures entry { result.entry ≡ entry_of_seat self.old.setting self.old.journal judged.now.seat }
         ensures kept { self.new ≡ record self.old { journal = self.old.journal ++ result.entry ∷ [] } }
     {
+        let steps = rules.stairs.steps_above(judged.word);
+        self.apply_on(problem, rules, judged, steps)
+    }
+
+    /// Decides as `apply` does, where it is known how many steps of the staircase stand above the draw's word:
+    /// they can be counted before the state is at hand, and no division is left to make.
+    pub fn apply_on(
+        &mut self,
+        problem: &Problem,
+        rules: &Rules,
+        judged: &Judged,
+        steps: u16,
+    ) -> Receipt
+        // The state's own problem and rules.
+        requires problem { problem.now ≡ self.old.setting.parts }
+        requires schedule { rules.now.schedule ≡ self.old.setting.cooling }
+        requires limit { rules.now.limit ≡ self.old.limit }
+
+        // Room for the entry, and the move of the seat's next draw.
+        requires not_full { length self.old.journal < self.old.limit }
+        requires seat { judged.now.seat < self.old.seats }
+        requires unit { judged.now.unit < unit_count problem.now }
+        requires next { IsNextMove self.old judged.now }
+
+        // The steps above the draw's word.
+        requires steps { AreStepsAbove judged.now.word steps }
+
+        // The entry, and the state with it.
+        ensures position { result.position ≡ length self.old.journal }
+        ensures entry { result.entry ≡ entry_of_seat self.old.setting self.old.journal judged.now.seat }
+        ensures kept { self.new ≡ record self.old { journal = self.old.journal ++ result.entry ∷ [] } }
+    {
         let position = self.length();
-        let accepted = rules
-            .stairs
-            .accepts(judged.change, rules.schedule.at(position), judged.word);
+        let accepted = accepts_on(steps, judged.change, self.level.temperature);
         self.standing
             .decide(problem, judged, accepted, position + 1);
         self.draws[judged.seat as usize] += 1;
         let entry = entry_of(judged, accepted);
         self.journal.push_reserved(entry);
+        self.level = level_after(self.level, &rules.schedule, self.limit, position + 1);
         Receipt { position, entry }
     }
 

@@ -12,6 +12,7 @@ mod rules;
 mod sample;
 mod standing;
 mod sums;
+mod temperature;
 mod versions;
 
 pub use closed::Closed;
