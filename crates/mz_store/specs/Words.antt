@@ -1,6 +1,6 @@
 -- The words that a store publishes: one for the zone of each unit, and behind these one for what is held for each
 -- target row.
-use Rattle.std.specs.Prelude.{◌<◌, ◌+◌, ◌^◌, ℕ, Bool, nat_le, nat_lt, if◌then◌else◌, List, ◌++◌}
+use Rattle.std.specs.Prelude.{◌<◌, ◌+◌, ℕ, Bool, nat_le, nat_lt, if◌then◌else◌, List, ◌++◌}
 use Rattle.mz_num.specs.Limits.{greatest_quantity}
 use Rattle.mz_model.specs.declared.parts.Parts.{Parts}
 use Rattle.mz_model.specs.Items.{Item, row_item, unit_item}

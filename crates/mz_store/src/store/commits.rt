@@ -3,6 +3,7 @@ ghost use Rattle.std.specs.Prelude.{◌≡◌, ◌<◌, ◌++◌, ◌∷◌, [],
 ghost use Rattle.mz_store.specs.declared.told.Told.{Told};
 ghost use Rattle.mz_board.specs.Chair.{Reads, with_entry, without_turn};
 ghost use Rattle.mz_model.specs.Parts.{unit_count};
+ghost use Rattle.mz_cool.specs.Acceptance.{AreStepsAbove};
 ghost use Rattle.mz_delta.specs.Judged.{IsRight};
 ghost use Rattle.mz_history.specs.Core.{entry_of_seat, next_draw, seats_of};
 ghost use Rattle.mz_history.specs.Replay.{turns_of};
@@ -48,8 +49,9 @@ impl<'p> Store<'p> {
         requires right { IsRight self.now.run.setting.parts reading.now (draw_of self.now.run pass.old) judged.now }
         ensures { Commits self.now.run pass.old pass.new reading.now result }
     {
+        let steps = self.rules.stairs.steps_above(judged.word);
         let held = self.board.take(rt, &mut pass.chair);
-        let turn = self.turn(&mut pass.chair, held, reading, judged);
+        let turn = self.turn(&mut pass.chair, held, reading, judged, steps);
         pass.number = turn.number;
         pass.reached = turn.length;
         pass.reading = None;
@@ -63,9 +65,10 @@ impl<'p> Store<'p> {
         requires right { IsRight self.now.run.setting.parts reading.now (draw_of self.now.run pass.old) judged.now }
         ensures { Tries self.now.run pass.old pass.new reading.now result }
     {
+        let steps = self.rules.stairs.steps_above(judged.word);
         match self.board.try_take(&mut pass.chair) {
             Ok(held) => {
-                let turn = self.turn(&mut pass.chair, held, reading, judged);
+                let turn = self.turn(&mut pass.chair, held, reading, judged, steps);
                 pass.number = turn.number;
                 pass.reached = turn.length;
                 pass.reading = None;
@@ -75,8 +78,16 @@ impl<'p> Store<'p> {
         }
     }
 
-    /// The verdict on what was judged by the reading, where the chair has taken the state; it is put back.
-    fn turn(&self, chair: &mut Chair<Held>, held: Held, reading: &Reading, judged: &Judged) -> Turn
+    /// The verdict on what was judged by the reading, where the chair has taken the state; it is put back. The steps
+    /// above the draw's word were counted before the turn, so that there is no division in it.
+    fn turn(
+        &self,
+        chair: &mut Chair<Held>,
+        held: Held,
+        reading: &Reading,
+        judged: &Judged,
+        steps: u16,
+    ) -> Turn
         // The chair has the turn, with the state.
         requires store { chair.old.lock ≡ self.now.board }
         requires setting { chair.old.lock.setting ≡ Some (run_of held.kept.value) }
@@ -90,6 +101,9 @@ impl<'p> Store<'p> {
         requires right { IsRight self.now.run.setting.parts reading.now (next_draw self.now.run.setting.parts
             self.now.run.setting.seed self.now.run.setting.run held.kept.value.journal chair.old.number) judged.now }
 
+        // The steps above the draw's word.
+        requires steps { AreStepsAbove judged.now.word steps }
+
         // The verdict, and what it leaves.
         ensures { Decides self.now.run chair.old chair.new
             (told_all held.kept.value.setting (held.kept.value.journal ++ added result.verdict))
@@ -102,12 +116,18 @@ impl<'p> Store<'p> {
         if let Some(position) = held.kept.touched_since(self.problem, reading) {
             return self.end_turn(chair, held, judged.seat, Verdict::Again(position));
         }
-        let receipt = self.add_entry(chair, &mut held, judged);
+        let receipt = self.add_entry(chair, &mut held, judged, steps);
         self.end_turn(chair, held, judged.seat, Verdict::Decided(receipt))
     }
 
     /// Appends the entry of the judged move, and stores what it changes.
-    fn add_entry(&self, chair: &mut Chair<Held>, held: &mut Held, judged: &Judged) -> Receipt
+    fn add_entry(
+        &self,
+        chair: &mut Chair<Held>,
+        held: &mut Held,
+        judged: &Judged,
+        steps: u16,
+    ) -> Receipt
         // The chair has the turn, with the state.
         requires store { chair.old.lock ≡ self.now.board }
         requires setting { chair.old.lock.setting ≡ Some (run_of held.old.kept.value) }
@@ -119,6 +139,7 @@ impl<'p> Store<'p> {
         requires seat { (judged.now.seat ≡ chair.old.number) × (judged.now.seat < held.old.kept.value.seats) }
         requires unit { judged.now.unit < unit_count held.old.kept.value.setting.parts }
         requires next { IsNextMove held.old.kept.value judged.now }
+        requires steps { AreStepsAbove judged.now.word steps }
 
         // The entry.
         ensures position { result.position ≡ length held.old.kept.value.journal }
@@ -132,7 +153,7 @@ impl<'p> Store<'p> {
         ensures chair { chair.new ≡ with_entry chair.old (told_all held.old.kept.value.setting
             (held.old.kept.value.journal ++ result.entry ∷ [])) [] }
     {
-        let receipt = held.kept.apply(self.problem, self.rules, judged);
+        let receipt = held.kept.apply_on(self.problem, self.rules, judged, steps);
         self.board.append(chair, held);
         self.store_changes(chair, judged, receipt.entry.accepted);
         receipt
