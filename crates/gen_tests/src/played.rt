@@ -61,7 +61,8 @@ fn decide(
     let draw = draw_of(problem, seed, seat, number);
     kept.look(problem, seat, draw.unit, reading);
     judge(problem, reading, draw, judged);
-    kept.apply(problem, rules, judged);
+    let steps = rules.stairs.steps_above(judged.word);
+    kept.apply_on(problem, rules, judged, steps);
     true
 }
 

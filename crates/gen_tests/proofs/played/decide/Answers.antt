@@ -4,8 +4,8 @@ use Rattle.mz_state.proofs.CommitLaws.{look-moves}
 use Rattle.gen_tests.proofs.PlayLemmas.{drawn-next, own-parts}
 use Rattle.gen_tests.proofs.played.decide.Goals as goal
 
-pub apply-requires-clause-next : goal.apply-requires-clause-next
-apply-requires-clause-next c =
+pub apply_on-requires-clause-next : goal.apply_on-requires-clause-next
+apply_on-requires-clause-next c =
     let k = c.args.kept.now in let judges = c.judge.ensures.right in
     let own = judges.move.seat ∙ c.look.ensures.looks.seat in
     look-moves k c.args.problem.now _ _ _ _ (own-parts c.args.problem.now c.args.rules.now c.args.seed k c.requires.play)
