@@ -10,7 +10,7 @@ NUMBERS = [
     "1000000000000.0000004", "99999999999999", "--1", "1 2", "NaN", "inf", "1e+2", "1E+0002", "٣", "1_000",
     "2147483647", "2147483648", "-2147483648", "-2147483649", "-1E9999", "-0.0", "-0.00000001", "-00", "1\x00",
     "\udcff", "0.5", "2", "3", "4", "61", "1000000000000000000", "1000000000000000001", "1.5e3", "5e-7", "4.9e-7",
-    "- 1", "+", "-", "1e1.5", "00000000000", "1\u00a0", "−1",
+    "- 1", "+", "-", "1e1.5", "00000000000", "1\u00a0", "−1", "1E00001", "1" * 39, "18446744073709551617",
 ]
 KEY_VALUES = {
     "BLM": ["1000000000000", "1000000000000.000001", "-1"], "PROP": ["1.000001", "1.0000004", "1.0000005"],
@@ -31,7 +31,7 @@ class Damage:
     def __init__(self, dice):
         self.dice, self.limits = dice, Limits(dice)
         self.to_lines = [self.repeat_line, self.spoil_number, self.spoil_number, self.spoil_text, self.drop_line,
-                         self.spoil_together, self.rename_file, self.drop_line]
+                         self.spoil_together, self.rename_file, self.drop_line, self.glue]
         self.to_tables = [*[self.spoil_cell] * 5, self.enlarge, self.enlarge_all, self.repeat_row, self.repeat_id,
                           self.unknown_id, self.drop_column, self.rename_column, self.many_rows,
                           self.leave_out, self.lock_outside, self.lock_outside, self.drop_rows, self.drop_table,
@@ -65,11 +65,18 @@ class Damage:
 
     def spoil_text(self, project):
         key = self.dice.choice([*TEXT_KEYS, *project.names])
-        self.set_line(project, key, self.dice.choice(["\udcff", "a\udcc3b", "", "nowhere", "nowhere/x", "é"]))
+        self.set_line(project, key, self.dice.choice(["\udcff", "a\udcc3b", "\udced\udca0\udc80", "", "nowhere", "nowhere/x", "é"]))
 
     def drop_line(self, project):
         if project.lines:
             project.lines.pop(self.dice.randrange(len(project.lines)))
+
+    def glue(self, project):
+        """A key and its value that no blank parts."""
+        if project.lines:
+            place = self.dice.randrange(len(project.lines))
+            key, value = project.lines[place]
+            project.lines[place] = (key + self.dice.choice(["\x00", "=", ":", "\u00a0", "\x0b"]) + value, "")
 
     def spoil_together(self, project):
         rows = [

@@ -41,16 +41,18 @@ pub level_after-self-inside-requires-clause-from : goal.level_after-self-inside-
 level_after-self-inside-requires-clause-from c = level-behind _ c.args.self.now _ _ c.length-position.result c.self.view_is c.self.invariant.1 c.requires.schedule c.length-position.ensures.count
 
 pub invariant_of-self : goal.invariant_of-self
-invariant_of-self c = (applied _ c.args.self.now _ _ _ _ _ _ _ _ _ _ _ _ c.args.problem.now c.args.judged.now c.accepts_on-accepted.result c.entry_of-entry.result _ _ _ _ _ _ _ c.self.view_is c.self.invariant.0 refl
-    (record {
-      own = c.requires.problem;
-      unit = c.requires.unit;
-      some_left = c.requires.not_full;
-      seat = c.requires.seat;
-      next = c.requires.next;
-      entry = sym c.entry_of-entry.ensures ∙ entry-next c.args.self.now c.args.judged.now _ _ c.args.self.now.setting.cooling _ _ _ refl c.length-position.ensures.count c.requires.next (to_z-of_z w128 c.args.judged.now.change (search rules)) (level-at _ c.args.self.now _ _ c.self.view_is c.self.invariant.1 c.length-position.ensures.count c.requires.not_full) (c.accepts_on-accepted.ensures c.args.judged.now.word c.requires.steps) c.entry_of-entry.ensures;
-      count_is = ap (λ (n : ℕ). n + 1) c.length-position.ensures.count;
-    })
-    c.index_mut.ensures.value c.entry_of-entry.ensures c.push_reserved.ensures.items c.push_reserved.ensures.capacity
-    (record { plan_is = c.decide.ensures.plan; position = c.decide.ensures.position; units_are = c.decide.ensures.units; rows_are = c.decide.ensures.rows; last_is = c.decide.ensures.last }),
-    level-next _ c.args.self.now _ _ _ c.length-position.result _ _ c.self.view_is c.requires.schedule refl c.length-position.ensures.count c.push_reserved.ensures.items c.level_after-self-inside.ensures.from c.level_after-self-inside.ensures.here)
+invariant_of-self c = (
+  applied _ c.args.self.now _ _ _ _ _ _ _ _ _ _ _ _ c.args.problem.now c.args.judged.now c.accepts_on-accepted.result c.entry_of-entry.result _ _ _ _ _ _ _ c.self.view_is c.self.invariant.0 refl
+      (record {
+        own = c.requires.problem;
+        unit = c.requires.unit;
+        some_left = c.requires.not_full;
+        seat = c.requires.seat;
+        next = c.requires.next;
+        entry = sym c.entry_of-entry.ensures ∙ entry-next c.args.self.now c.args.judged.now _ _ c.args.self.now.setting.cooling _ _ _ refl c.length-position.ensures.count c.requires.next (to_z-of_z w128 c.args.judged.now.change (search rules)) (level-at _ c.args.self.now _ _ c.self.view_is c.self.invariant.1 c.length-position.ensures.count c.requires.not_full) (c.accepts_on-accepted.ensures c.args.judged.now.word c.requires.steps) c.entry_of-entry.ensures;
+        count_is = ap (λ (n : ℕ). n + 1) c.length-position.ensures.count;
+      })
+      c.index_mut.ensures.value c.entry_of-entry.ensures c.push_reserved.ensures.items c.push_reserved.ensures.capacity
+      (record { plan_is = c.decide.ensures.plan; position = c.decide.ensures.position; units_are = c.decide.ensures.units; rows_are = c.decide.ensures.rows; last_is = c.decide.ensures.last }),
+  level-next _ c.args.self.now _ _ _ c.length-position.result _ _ c.self.view_is c.requires.schedule refl c.length-position.ensures.count c.push_reserved.ensures.items c.level_after-self-inside.ensures.from c.level_after-self-inside.ensures.here,
+)
