@@ -5,19 +5,22 @@ use crossbeam_utils::Backoff;
 use std::sync::Wait;
 use std::sync::atomic::Ordering;
 
-/// How many looks a chair makes before it tries all the same: so many rounds complete a `Backoff`.
-const LOOKS: u32 = 11;
+/// How many whole back-offs a chair rests behind each look, before it tries all the same.
+const RESTS: [u32; 5] = [2, 4, 8, 16, 32];
+
+/// So many rounds complete a `Backoff`: the first seven spin, the others yield the processor.
+const ROUNDS: u32 = 11;
 
 impl<T: Story + Send + Drop> Board<T> {
-    // Stays away while another chair has the turn, but for a bounded number of rounds. A try would take the cache line
-    // of the lock word from the chair that has the turn; looks with pauses between them disturb it less.
+    // Stays away while another chair has the turn, but for a bounded number of looks. A look takes the lock word's cache
+    // line from the chair that has the turn, and a turn takes the lines of the value from the one before it. A chair
+    // that rests for the time of many turns lets another have these in a row, which is quicker for both.
     pub(super) fn stay_away(&self) {
-        let backoff = Backoff::new();
-        for _ in 0..LOOKS {
+        for backoffs in RESTS {
             if self.table.shared.peek(LOCK) == 0 {
                 return;
             }
-            backoff.snooze();
+            rest(backoffs);
         }
     }
 
@@ -43,5 +46,20 @@ impl<T: Story + Send + Drop> Board<T> {
         if self.sleepers.load(Ordering::SeqCst) != 0 {
             self.table.shared.wake_one(LOCK);
         }
+    }
+}
+
+// Rests for so many whole back-offs.
+fn rest(backoffs: u32) {
+    for _ in 0..backoffs {
+        back_off();
+    }
+}
+
+// Rests for a whole back-off, some microseconds.
+fn back_off() {
+    let backoff = Backoff::new();
+    for _ in 0..ROUNDS {
+        backoff.snooze();
     }
 }
