@@ -5,6 +5,7 @@ use Rattle.mz_board.specs.Chair.{BoardId, ChairState, MayAppend, with_entry}
 use Rattle.mz_model.specs.declared.parts.Parts.{Parts}
 use Rattle.mz_model.specs.Parts.{target_count, unit_count, zone_count}
 use Rattle.mz_delta.specs.declared.judged.Judged.{Judged}
+use Rattle.mz_delta.specs.declared.reading.Reading.{Reading}
 use Rattle.mz_history.specs.declared.entry.Entry.{Entry}
 use Rattle.mz_history.specs.Core.{entry_of_seat}
 use Rattle.mz_history.specs.Moves.{IsMove}
@@ -17,7 +18,7 @@ use Rattle.mz_store.specs.contracts.held.HeldStory.TheImpl.{ghosts}
 use Rattle.mz_store.specs.RunSetting.{run_of, RunSetting}
 use Rattle.mz_store.specs.Store.{IsStore, StoreState}
 use Rattle.mz_store.specs.Told.{told, told_all, writes_of}
-use Rattle.mz_store.specs.Turns.{HasTurn, move_writes, with_owes}
+use Rattle.mz_store.specs.Turns.{HasTurn, move_writes, ShowsGains, with_owes}
 use Rattle.mz_store.specs.Words.{may_have}
 use Rattle.mz_store.proofs.EntryLaws.{entry-legal, entry-move, entry-writes, judged-zones, writes-fit}
 use Rattle.mz_store.proofs.StoreLaws.{length-words, run-known}
@@ -81,6 +82,9 @@ module _ (now : StoreState) (chair : ChairState Told RunSetting) (k : KeptState)
 
   pub zones-within : (judged.old < zone_count now.run.setting.parts) × (judged.new < zone_count now.run.setting.parts)
   zones-within = subst (λ (p : Parts). (judged.old < zone_count p) × (judged.new < zone_count p)) parts-same (judged-zones k judged adds.kept adds.next adds.unit)
+
+  pub gains-within : (reading : Reading) → ShowsGains k.setting.parts reading judged → ShowsGains now.run.setting.parts reading judged
+  gains-within reading shows = subst (λ (p : Parts). ShowsGains p reading judged) parts-same shows
 
   pub owes-move : (n : KeptState) (after : ChairState Told RunSetting) → n ≡ grown
       → ((t : Told) → told_all n.setting n.journal ≡ chair.seen ++ t ∷ [] → after ≡ with_entry chair (told_all n.setting n.journal) t.writes)

@@ -12,7 +12,8 @@ use Rattle.mz_model.specs.declared.parts.Parts.{Parts}
 use Rattle.mz_model.specs.Parts.{target_count, unit_count}
 use Rattle.mz_model.specs.Targets.{gain_of, is_touched, touched_rows}
 use Rattle.mz_delta.specs.declared.judged.Judged.{Judged}
-use Rattle.mz_store.specs.Turns.{move_writes, row_writes, with_owes}
+use Rattle.mz_delta.specs.declared.reading.Reading.{Reading}
+use Rattle.mz_store.specs.Turns.{move_writes, row_writes, ShowsGains, with_owes}
 
 -- ---- words that are no longer owed
 
@@ -82,34 +83,62 @@ module _ (parts : Parts) (unit from to : ℕ) where
 
 -- ---- the step over a row
 
+module _ (parts : Parts) (reading : Reading) (judged : Judged) (shows : ShowsGains parts reading judged) where
+  abbrev rows : List ℕ
+  rows = touched_rows parts judged.unit
+
+  abbrev differing : ℕ → Bool
+  differing = differs parts judged.unit judged.old judged.new
+
+  -- what is held before and after the move, and the gains, for the row at a place
+  row-gains : (i d e read moved : ℕ) → i < length rows → length judged.totals.items ≡ length rows → read ≡ get_or reading.totals.items i d → moved ≡ get_or judged.totals.items i e
+      → moved + gain_of parts (get_or rows i 0) judged.unit judged.old ≡ read + gain_of parts (get_or rows i 0) judged.unit judged.new
+  row-gains i d e read moved within count read_is moved_is =
+      let one = get_or_default reading.totals.items i d 0 (omega (arith, within, shows.count)) in
+      let two = get_or_default judged.totals.items i e 0 (omega (arith, within, count)) in
+      let gains = shows.gains i within in
+      omega (arith, read_is, moved_is, one, two, gains)
+
+  pub row-moves : (i d e read moved : ℕ) → i < length rows → length judged.totals.items ≡ length rows → read ≡ get_or reading.totals.items i d → moved ≡ get_or judged.totals.items i e
+      → read ≢ moved → differing (get_or rows i 0) ≡ true
+  row-moves i d e read moved within count read_is moved_is apart =
+      let gains = row-gains i d e read moved within count read_is moved_is in
+      ap not (ne_eqb (gain_of parts (get_or rows i 0) judged.unit judged.old) (gain_of parts (get_or rows i 0) judged.unit judged.new) (λ same. apart (omega (arith, gains, same))))
+
+  pub row-stays : (i d e read moved : ℕ) → i < length rows → length judged.totals.items ≡ length rows → read ≡ get_or reading.totals.items i d → moved ≡ get_or judged.totals.items i e
+      → read ≡ moved → differing (get_or rows i 0) ≡ false
+  row-stays i d e read moved within count read_is moved_is equal =
+      let gains = row-gains i d e read moved within count read_is moved_is in
+      ap not (eq-eqb (gain_of parts (get_or rows i 0) judged.unit judged.old) (gain_of parts (get_or rows i 0) judged.unit judged.new) (omega (arith, gains, equal)))
+
 module _ {E S : Type 0} where
-  pub row-stored : (parts parts' : Parts) (unit from to i word units place lost gained : ℕ) (totals : List ℕ) (before after : ChairState E S) → parts' ≡ parts → i < length (touched_rows parts unit) → length totals ≡ length (touched_rows parts unit)
-      → before.post.owes ≡ row_writes parts unit from to (drop i (touched_rows parts unit)) (drop i totals)
-      → lost ≡ gain_of parts' (slice_index (touched_rows parts' unit) i) unit from → gained ≡ gain_of parts' (slice_index (touched_rows parts' unit) i) unit to → lost ≢ gained
-      → units ≡ unit_count parts' → place ≡ slice_index (touched_rows parts' unit) i → word ≡ units + place → after ≡ with_stored before word
-      → after ≡ with_owes before (row_writes parts unit from to (drop (i + 1) (touched_rows parts unit)) (drop (i + 1) totals))
-  row-stored parts parts' unit from to i word units place lost gained totals before after same within count owes lost_is gained_is apart units_are place_is word_is stored =
+  pub row-stored : (parts parts' : Parts) (reading : Reading) (judged : Judged) (i d e read moved word units place : ℕ) (before after : ChairState E S) → parts' ≡ parts → ShowsGains parts reading judged
+      → i < length (touched_rows parts judged.unit) → length judged.totals.items ≡ length (touched_rows parts judged.unit)
+      → before.post.owes ≡ row_writes parts judged.unit judged.old judged.new (drop i (touched_rows parts judged.unit)) (drop i judged.totals.items)
+      → read ≡ get_or reading.totals.items i d → moved ≡ get_or judged.totals.items i e → read ≢ moved
+      → units ≡ unit_count parts' → place ≡ slice_index (touched_rows parts' judged.unit) i → word ≡ units + place → after ≡ with_stored before word
+      → after ≡ with_owes before (row_writes parts judged.unit judged.old judged.new (drop (i + 1) (touched_rows parts judged.unit)) (drop (i + 1) judged.totals.items))
+  row-stored parts parts' reading judged i d e read moved word units place before after same shows within count owes read_is moved_is apart units_are place_is word_is stored =
+      let unit = judged.unit in let from = judged.old in let to = judged.new in let totals = judged.totals.items in
       let row = get_or (touched_rows parts unit) i 0 in
       let rest = row_writes parts unit from to (drop (i + 1) (touched_rows parts unit)) (drop (i + 1) totals) in
-      let was : lost ≡ gain_of parts row unit from = lost_is ∙ ap (λ p. gain_of p (slice_index (touched_rows p unit) i) unit from) same in
-      let now : gained ≡ gain_of parts row unit to = gained_is ∙ ap (λ p. gain_of p (slice_index (touched_rows p unit) i) unit to) same in
-      let moves : differs parts unit from to row ≡ true = ap not (ne_eqb (gain_of parts row unit from) (gain_of parts row unit to) (λ e. apart (was ∙ e ∙ sym now))) in
+      let moves = row-moves parts reading judged shows i d e read moved within count read_is moved_is apart in
       let at : word ≡ unit_count parts + row = word_is ∙ ap (λ n. n + place) (units_are ∙ ap unit_count same) ∙ ap (λ n. unit_count parts + n) (place_is ∙ ap (λ p. slice_index (touched_rows p unit) i) same) in
       let owed : before.post.owes ≡ (unit_count parts + row, get_or totals i 0) ∷ rest = owes ∙ row-owed parts unit from to i totals within count
       ∙ ap (λ b. cond b ((unit_count parts + row, get_or totals i 0) ∷ rest) rest) moves in
       stored ∙ ap (λ (ws : List (ℕ × ℕ)). with_owes before ws)
       (ap (λ w. without w before.post.owes) at ∙ ap (without (unit_count parts + row)) owed ∙ without-first (unit_count parts + row) (get_or totals i 0) rest (row-apart parts unit from to i totals within))
 
-  pub row-passed : (parts parts' : Parts) (unit from to i lost gained : ℕ) (totals : List ℕ) (before : ChairState E S) → parts' ≡ parts → i < length (touched_rows parts unit) → length totals ≡ length (touched_rows parts unit)
-      → before.post.owes ≡ row_writes parts unit from to (drop i (touched_rows parts unit)) (drop i totals)
-      → lost ≡ gain_of parts' (slice_index (touched_rows parts' unit) i) unit from → gained ≡ gain_of parts' (slice_index (touched_rows parts' unit) i) unit to → lost ≡ gained
-      → before ≡ with_owes before (row_writes parts unit from to (drop (i + 1) (touched_rows parts unit)) (drop (i + 1) totals))
-  row-passed parts parts' unit from to i lost gained totals before same within count owes lost_is gained_is equal =
+  pub row-passed : (parts : Parts) (reading : Reading) (judged : Judged) (i d e read moved : ℕ) (before : ChairState E S) → ShowsGains parts reading judged
+      → i < length (touched_rows parts judged.unit) → length judged.totals.items ≡ length (touched_rows parts judged.unit)
+      → before.post.owes ≡ row_writes parts judged.unit judged.old judged.new (drop i (touched_rows parts judged.unit)) (drop i judged.totals.items)
+      → read ≡ get_or reading.totals.items i d → moved ≡ get_or judged.totals.items i e → read ≡ moved
+      → before ≡ with_owes before (row_writes parts judged.unit judged.old judged.new (drop (i + 1) (touched_rows parts judged.unit)) (drop (i + 1) judged.totals.items))
+  row-passed parts reading judged i d e read moved before shows within count owes read_is moved_is equal =
+      let unit = judged.unit in let from = judged.old in let to = judged.new in let totals = judged.totals.items in
       let row = get_or (touched_rows parts unit) i 0 in
       let rest = row_writes parts unit from to (drop (i + 1) (touched_rows parts unit)) (drop (i + 1) totals) in
-      let was : lost ≡ gain_of parts row unit from = lost_is ∙ ap (λ p. gain_of p (slice_index (touched_rows p unit) i) unit from) same in
-      let now : gained ≡ gain_of parts row unit to = gained_is ∙ ap (λ p. gain_of p (slice_index (touched_rows p unit) i) unit to) same in
-      let stays : differs parts unit from to row ≡ false = ap not (eq-eqb (gain_of parts row unit from) (gain_of parts row unit to) (sym was ∙ equal ∙ now)) in
+      let stays = row-stays parts reading judged shows i d e read moved within count read_is moved_is equal in
       ap (λ (ws : List (ℕ × ℕ)). with_owes before ws) (owes ∙ row-owed parts unit from to i totals within count ∙ ap (λ b. cond b ((unit_count parts + row, get_or totals i 0) ∷ rest) rest) stays)
 
   pub unit-stored : (parts : Parts) (judged : Judged) (before after : ChairState E S) → judged.unit < unit_count parts → before.post.owes ≡ move_writes parts judged true → after ≡ with_stored before judged.unit

@@ -1,5 +1,6 @@
 -- Readings whose items were loaded one by one are right for the journal that the turn finds.
 use Rattle.std.proofs.Common.{◌≡◌, ℕ, zero, suc, ◌+◌, ◌-◌, ◌<◌, ◌≤◌, true, false, List, [], ◌∷◌, ◌++◌, length, length-append, get_or, map, take, drop, reverse, None, sym, ap, ◌∙◌, subst, arith, inl, inr}
+use Rattle.std.specs.Prelude.{slice_index}
 use Rattle.std.specs.List.{All, list_any, zip}
 use Rattle.std.proofs.Math.Seq.{get_or-append_seam, take-length}
 use Rattle.std.proofs.lemmas.Bool.{cases_Bool, false≢true}
@@ -10,31 +11,39 @@ use Rattle.std.proofs.lemmas.Option.{none-some}
 use Rattle.mz_board.specs.declared.post.Post.{Post}
 use Rattle.mz_board.specs.Chair.{Reads}
 use Rattle.mz_board.specs.Items.{IsWrittenFrom, ReadOk, written}
+use Rattle.mz_draw.specs.declared.draw.Draw.{Draw}
 use Rattle.mz_model.specs.declared.neighbour.Neighbour.{Neighbour}
 use Rattle.mz_model.specs.declared.parts.Parts.{Parts}
 use Rattle.mz_model.specs.Boundary.{neighbours_of}
 use Rattle.mz_model.specs.Items.{Item, items_of, row_item, unit_item}
 use Rattle.mz_model.specs.Parts.{unit_count}
-use Rattle.mz_model.specs.Targets.{touched_rows}
+use Rattle.mz_model.specs.Move.{moved_plan}
+use Rattle.mz_model.specs.Plans.{IsLegalPlan}
+use Rattle.mz_model.specs.Targets.{gain_of, held_of, touched_rows}
 use Rattle.mz_model.specs.Valid.{IsValid}
+use Rattle.mz_model.specs.Zones.{step_of}
 use Rattle.mz_model.proofs.NeighbourLaws.{neighbours_of-in_range}
 use Rattle.mz_model.proofs.TouchLaws.{touched_rows-in_range}
 use Rattle.mz_delta.specs.declared.judged.Judged.{Judged}
 use Rattle.mz_delta.specs.declared.reading.Reading.{Reading}
 use Rattle.mz_delta.specs.Judged.{IsRight}
+use Rattle.mz_delta.specs.Reading.{Agrees}
+use Rattle.mz_delta.proofs.MoveLaws.{held-moved}
 use Rattle.mz_history.specs.declared.entry.Entry.{Entry}
 use Rattle.mz_history.specs.Core.{next_draw}
 use Rattle.mz_history.specs.Items.{changes, value_of_item}
 use Rattle.mz_history.specs.Moves.{IsMove}
 use Rattle.mz_history.specs.Replay.{IsLegalHistory, plan_of_history, Setting}
 use Rattle.mz_history.specs.Verdict.{overtaking_entry}
+use Rattle.mz_history.proofs.LegalHistoryLaws.{last_plan-legal}
 use Rattle.mz_state.specs.Kept.{IsKept, KeptState}
 use Rattle.mz_state.specs.Looks.{IsRightFor, read_values}
 use Rattle.mz_state.specs.NextMove.{IsMoveOf, IsNextMove}
-use Rattle.mz_state.proofs.CommitLaws.{commit-moves}
+use Rattle.mz_state.proofs.CommitLaws.{commit-moves, untouched-agrees}
 use Rattle.mz_store.specs.declared.told.Told.{Told}
 use Rattle.mz_store.specs.Looks.{IsLoaded, loads_of}
 use Rattle.mz_store.specs.Told.{told_all, untold, writes}
+use Rattle.mz_store.specs.Turns.{ShowsGains}
 use Rattle.mz_store.specs.Words.{IsItem, opening_words, word_of_item}
 use Rattle.mz_store.proofs.ToldLaws.{length-untold, told-split}
 use Rattle.mz_store.proofs.WordLaws.{words-follow, written-same}
@@ -117,3 +126,29 @@ next-moves k seat reading judged kept right none own judges =
     let early : IsRightFor k.setting (take (length k.journal) k.journal) reading = subst (λ (h : List Entry). IsRightFor k.setting h reading) (sym (take-length k.journal)) right in
     subst (λ (n : ℕ). IsMoveOf k.setting.parts (plan_of_history k.setting k.journal) (next_draw k.setting.parts k.setting.seed k.setting.run k.journal n) judged) (sym own)
     (commit-moves k.setting k.journal (length k.journal) reading (next_draw k.setting.parts k.setting.seed k.setting.run k.journal seat) judged kept.valid kept.journal.history (omega arith) early none judges)
+
+-- what was judged by a reading with which a legal plan agrees shows, by the totals before and after, what the unit gains
+judged-gains : (parts : Parts) (plan : List ℕ) (reading : Reading) (draw : Draw) (judged : Judged) → IsLegalPlan parts plan → Agrees parts plan reading → IsRight parts reading draw judged → ShowsGains parts reading judged
+judged-gains parts plan reading draw judged legal agrees judges =
+    let unit = reading.unit in let zone = step_of parts draw.unit reading.zone draw.shift in let move = judges.move in
+    let rows = touched_rows parts judged.unit in let after = held_of parts (moved_plan plan unit zone) in
+    let difference = move.difference plan legal agrees in record {
+      count = judges.well_formed.touched ∙ ap (λ u. length (touched_rows parts u)) (sym move.unit);
+      gains = λ i inside.
+          let row = slice_index rows i in
+          let read : slice_index reading.totals.items i ≡ held_of parts plan row = ap (λ (ts : List ℕ). slice_index ts i) agrees.totals
+          ∙ ap (λ u. slice_index (map (held_of parts plan) (touched_rows parts u)) i) (sym move.unit) ∙ get_or-map (held_of parts plan) rows i 0 0 inside in
+          let moved : slice_index judged.totals.items i ≡ after row = ap (λ (ts : List ℕ). slice_index ts i) difference.totals ∙ get_or-map after rows i 0 0 inside in
+          let held = held-moved parts plan unit zone row legal judges.well_formed.unit in
+          let lost : gain_of parts row judged.unit judged.old ≡ gain_of parts row unit (slice_index plan unit) = ap (λ u. gain_of parts row u judged.old) move.unit ∙ ap (gain_of parts row unit) (move.old ∙ agrees.unit) in
+          let gained : gain_of parts row judged.unit judged.new ≡ gain_of parts row unit zone = ap (λ u. gain_of parts row u judged.new) move.unit ∙ ap (gain_of parts row unit) move.new in
+          omega (arith, read, moved, held, lost, gained);
+    }
+
+-- and so does what was judged by a reading that nothing overtook
+pub next-gains : (k : KeptState) (reading : Reading) (draw : Draw) (judged : Judged) → IsKept k → IsRightFor k.setting k.journal reading → overtaking_entry k.setting.parts k.journal reading.front reading.unit ≡ None
+    → IsRight k.setting.parts reading draw judged → ShowsGains k.setting.parts reading judged
+next-gains k reading draw judged kept right none judges =
+    let early : IsRightFor k.setting (take (length k.journal) k.journal) reading = subst (λ (h : List Entry). IsRightFor k.setting h reading) (sym (take-length k.journal)) right in
+    judged-gains k.setting.parts (plan_of_history k.setting k.journal) reading draw judged (last_plan-legal k.setting k.journal kept.valid kept.journal.history)
+    (untouched-agrees k.setting k.journal (length k.journal) reading kept.valid kept.journal.history (omega arith) judges.well_formed early none) judges

@@ -24,11 +24,11 @@ use Rattle.mz_store.specs.Looks.{IsLoaded}
 use Rattle.mz_store.specs.RunSetting.{run_of, RunSetting}
 use Rattle.mz_store.specs.Store.{IsStore, StoreState}
 use Rattle.mz_store.specs.Told.{told_all, writes}
-use Rattle.mz_store.specs.Turns.{Decides, ended, HasTurn}
+use Rattle.mz_store.specs.Turns.{Decides, ended, HasTurn, ShowsGains}
 use Rattle.mz_store.specs.Verdict.{added, answer_of, verdict_on}
 use Rattle.mz_store.specs.Words.{opening_words}
 use Rattle.mz_store.proofs.AppendLaws.{run-is}
-use Rattle.mz_store.proofs.RightLaws.{loaded-right, next-moves}
+use Rattle.mz_store.proofs.RightLaws.{loaded-right, next-gains, next-moves}
 use Rattle.mz_store.proofs.ToldLaws.{length-told}
 
 -- a chair that has appended nothing puts back what it took
@@ -64,12 +64,16 @@ module _ (now : StoreState) (chair : ChairState Told RunSetting) (k : KeptState)
       let loaded : IsLoaded k.setting.parts chair.number chair.post reading = subst (λ (r : RunSetting). IsLoaded r.setting.parts chair.number chair.post reading) (sym run-same) has.loaded in
       loaded-right k.setting k.journal chair.lock.opening chair.number chair.post reading has.kept.valid has.kept.journal.history has.kept.journal.moves opens has.reads loaded (length-told k.setting k.journal)
 
+  judges : IsRight k.setting.parts reading (next_draw k.setting.parts k.setting.seed k.setting.run k.journal chair.number) judged
+  judges = subst (λ (r : RunSetting). IsRight r.setting.parts reading (next_draw r.setting.parts r.setting.seed r.setting.run k.journal chair.number) judged) (sym run-same) has.right
+
   -- what was judged can be applied where nothing overtook the reading
   pub may-apply : overtaking_entry k.setting.parts k.journal reading.front reading.unit ≡ None → IsNextMove k judged
-  may-apply none =
-      let judges : IsRight k.setting.parts reading (next_draw k.setting.parts k.setting.seed k.setting.run k.journal chair.number) judged =
-      subst (λ (r : RunSetting). IsRight r.setting.parts reading (next_draw r.setting.parts r.setting.seed r.setting.run k.journal chair.number) judged) (sym run-same) has.right in
-      next-moves k chair.number reading judged has.kept right-for none judged-seat judges
+  may-apply none = next-moves k chair.number reading judged has.kept right-for none judged-seat judges
+
+  -- the totals that were read and judged show what the unit gains, where nothing overtook the reading
+  pub shows-gains : overtaking_entry k.setting.parts k.journal reading.front reading.unit ≡ None → ShowsGains k.setting.parts reading judged
+  shows-gains none = next-gains k reading (next_draw k.setting.parts k.setting.seed k.setting.run k.journal chair.number) judged has.kept right-for none judges
 
   -- ---- the verdict
 

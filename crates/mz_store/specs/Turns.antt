@@ -1,5 +1,6 @@
 -- What a turn of a chair comes to.
-use Rattle.std.specs.Prelude.{◌≡◌, ℕ, false, not, ◌==◌, ◌+◌, cond, Bool, List, [], ◌∷◌, ◌++◌, length, Some, None}
+use Rattle.std.specs.Prelude.{◌≡◌, ◌<◌, ℕ, false, not, ◌==◌, ◌+◌, cond, Bool, List, [], ◌∷◌, ◌++◌, length, slice_index}
+use Rattle.std.specs.Prelude.{Some, None}
 use Rattle.mz_board.specs.Chair.{ChairState}
 use Rattle.mz_model.specs.declared.parts.Parts.{Parts}
 use Rattle.mz_model.specs.Parts.{unit_count}
@@ -51,6 +52,18 @@ move_writes parts judged accepted = cond accepted
     ((judged.unit, judged.new)
     ∷ row_writes parts judged.unit judged.old judged.new (touched_rows parts judged.unit) judged.totals.items)
     []
+
+-- what a unit gains in a zone for the row at a place among those that it touches
+abbrev pub touched_gain : Parts → ℕ → ℕ → ℕ → ℕ
+touched_gain parts unit i zone = gain_of parts (slice_index (touched_rows parts unit) i) unit zone
+
+-- for each target row that the judged unit touches, as much more is held after the move than was read as the unit gains
+-- more in its new zone than in its old one
+pub record ShowsGains (parts : Parts) (reading : Reading) (judged : Judged) : Type 0 where
+  pub count : length reading.totals.items ≡ length (touched_rows parts judged.unit)
+  pub gains : (i : ℕ) → i < length (touched_rows parts judged.unit)
+      → slice_index judged.totals.items i + touched_gain parts judged.unit i judged.old
+      ≡ slice_index reading.totals.items i + touched_gain parts judged.unit i judged.new
 
 -- a turn over a kept state: it is answered the verdict of the journal on the reading, which is right for it, and puts
 -- back the journal with the entries that the verdict adds

@@ -6,7 +6,7 @@ use std::sync::Wait;
 use std::sync::atomic::Ordering;
 
 /// How many whole back-offs a chair rests behind each look, before it tries all the same.
-const RESTS: [u32; 5] = [2, 4, 8, 16, 32];
+const RESTS: [u32; 4] = [8, 16, 32, 64];
 
 /// So many rounds complete a `Backoff`: the first seven spin, the others yield the processor.
 const ROUNDS: u32 = 11;

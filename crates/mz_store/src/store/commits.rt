@@ -14,7 +14,7 @@ ghost use Rattle.mz_store.specs.Looks.{IsLoaded};
 ghost use Rattle.mz_store.specs.Pass.{draw_of};
 ghost use Rattle.mz_store.specs.RunSetting.{run_of};
 ghost use Rattle.mz_store.specs.Told.{told_all, writes};
-ghost use Rattle.mz_store.specs.Turns.{Decides, HasTurn};
+ghost use Rattle.mz_store.specs.Turns.{Decides, HasTurn, ShowsGains};
 ghost use Rattle.mz_store.specs.Verdict.{added, try_of};
 
 use super::Store;
@@ -116,7 +116,7 @@ impl<'p> Store<'p> {
         if let Some(position) = held.kept.touched_since(self.problem, reading) {
             return self.end_turn(chair, held, judged.seat, Verdict::Again(position));
         }
-        let receipt = self.add_entry(chair, &mut held, judged, steps);
+        let receipt = self.add_entry(chair, &mut held, reading, judged, steps);
         self.end_turn(chair, held, judged.seat, Verdict::Decided(receipt))
     }
 
@@ -125,6 +125,7 @@ impl<'p> Store<'p> {
         &self,
         chair: &mut Chair<Held>,
         held: &mut Held,
+        reading: &Reading,
         judged: &Judged,
         steps: u16,
     ) -> Receipt
@@ -139,6 +140,7 @@ impl<'p> Store<'p> {
         requires seat { (judged.now.seat ≡ chair.old.number) × (judged.now.seat < held.old.kept.value.seats) }
         requires unit { judged.now.unit < unit_count held.old.kept.value.setting.parts }
         requires next { IsNextMove held.old.kept.value judged.now }
+        requires gains { ShowsGains held.old.kept.value.setting.parts reading.now judged.now }
         requires steps { AreStepsAbove judged.now.word steps }
 
         // The entry.
@@ -155,7 +157,7 @@ impl<'p> Store<'p> {
     {
         let receipt = held.kept.apply_on(self.problem, self.rules, judged, steps);
         self.board.append(chair, held);
-        self.store_changes(chair, judged, receipt.entry.accepted);
+        self.store_changes(chair, reading, judged, receipt.entry.accepted);
         receipt
     }
 

@@ -5,7 +5,7 @@ use Rattle.mz_store.specs.declared.verdict.Verdict.TheVariants.{Again, Full}
 use Rattle.mz_store.specs.RunSetting.{RunSetting}
 use Rattle.mz_store.specs.Told.{told_all}
 use Rattle.mz_store.proofs.StoreLaws.{store-now}
-use Rattle.mz_store.proofs.TurnLaws.{again-answer, decided-answer, full-answer, full-through, kept-through, left-alone, left-grown, may-apply, open-through, overtaken-through}
+use Rattle.mz_store.proofs.TurnLaws.{again-answer, decided-answer, full-answer, full-through, kept-through, left-alone, left-grown, may-apply, open-through, overtaken-through, shows-gains}
 use Rattle.mz_store.proofs.store.Store.turn.Goals as goal
 
 pub returns-then-length-self : goal.returns-then-length-self
@@ -59,6 +59,19 @@ returns-in-Some c = left-alone c.args.self.now c.args.chair.now c.args.held.kept
 
 pub add_entry-receipt-requires-clause-next : goal.add_entry-receipt-requires-clause-next
 add_entry-receipt-requires-clause-next c = may-apply c.args.self.now c.args.chair.now c.args.held.kept.value c.args.reading.now c.args.judged.now (record {
+  store = store-now _ c.args.self.now c.self.view_is c.self.invariant;
+  here = c.requires.store;
+  setting = c.requires.setting;
+  turn = c.requires.turn;
+  reads = c.requires.reads;
+  loaded = c.requires.loaded;
+  kept = kept-through c.args.held.kept.value _ c.deref.ensures c.length.ensures.kept;
+  right = c.requires.right;
+})
+    (overtaken-through c.args.held.kept.value _ c.args.reading.now c.touched_since.result None c.deref-2.ensures c.touched_since.ensures c.in_default.is)
+
+pub add_entry-receipt-requires-clause-gains : goal.add_entry-receipt-requires-clause-gains
+add_entry-receipt-requires-clause-gains c = shows-gains c.args.self.now c.args.chair.now c.args.held.kept.value c.args.reading.now c.args.judged.now (record {
   store = store-now _ c.args.self.now c.self.view_is c.self.invariant;
   here = c.requires.store;
   setting = c.requires.setting;
