@@ -4,12 +4,14 @@
     bench/annealing.py [PROPOSALS [REGION ..]]
 
 It makes regions of the generator's form (seed 7) with 2,000, 20,000 and 100,000 units, and one of 2,000 units that
-touch some 100 target rows each, in a folder of its own. It runs the program that `rt ci` left at
-crates/marzone/out/marzone, and the annealer of bench/annealing.rs as rustc builds it, on one thread. One worker
-decides the same history as the annealer, so their best files must be the same, byte for byte. The program's time
-for its proposals is that of a run with all of them less that of a run with none; each is the least of some runs. How
-many of 1,000 proposals found their reading overtaken is counted by the gate of crates/anneal_bench. Without a
-program, or without rustc, what lacks is skipped.
+touch some 100 target rows each, twice: with found temperatures, where most moves are accepted, and at one where few
+are. They lie in a folder of its own. It runs the program that `rt ci` left at crates/marzone/out/marzone, and the
+annealer of bench/annealing.rs as rustc builds it, on one thread. One worker decides the same history as the annealer,
+so their best files must be the same, byte for byte. The program's time for its proposals is that of a run with all of
+them less that of a run with none; each is the least of some runs. A line says the region, the workers, the time for a
+proposal, the rate as a part of one worker's, the annealer's time, the ratio to it, and how many of 1,000 proposals
+found their reading overtaken, as the gate of crates/anneal_bench counts them; that of one worker goes on with how many
+of 1,000 were accepted, and with the score. Without a program, or without rustc, what lacks is skipped.
 """
 
 import pathlib
@@ -44,7 +46,7 @@ BLM 0.5
 RANDSEED {seed}
 NUMREPS 1
 NUMITNS {proposals}
-STARTTEMP -1
+STARTTEMP {start}
 NUMTEMP 1000
 RUNMODE 6
 SAVEBEST 3
@@ -52,12 +54,14 @@ SAVEBEST 3
 
 
 class Region(typing.NamedTuple):
-    """A grid of units, and how many of 40 draws of a feature give a unit an amount of it."""
+    """A grid of units, how many of 40 draws of a feature give a unit an amount of it, and the temperature, or -1 where
+    it is found."""
 
     rows: int
     columns: int
     features: int
     present: int
+    start: int = -1
 
 
 REGIONS = {
@@ -65,6 +69,7 @@ REGIONS = {
     "20000 units": Region(100, 200, 20, 10),
     "100000 units": Region(250, 400, 20, 10),
     "2000 units, 100 rows each": Region(40, 50, 200, 20),
+    "2000 units, 100 rows each, cool": Region(40, 50, 200, 20, 5),
 }
 
 
@@ -125,61 +130,74 @@ def project(region):
     }
 
 
-def ask(folder, proposals):
+def ask(folder, start, proposals):
     """Puts down the parameter file of a run of so many proposals."""
-    (folder / "input.dat").write_text(KEYS.format(seed=SEED, proposals=proposals))
+    (folder / "input.dat").write_text(KEYS.format(seed=SEED, start=start, proposals=proposals))
 
 
-def seconds(folder, proposals, workers):
-    """The least time of some runs of the program."""
-    ask(folder, proposals)
-    times = []
+def seconds(folder, workers):
+    """The time of a run of the program."""
+    began = time.perf_counter()
+    run = subprocess.run([PROGRAM, "input.dat", f"{workers}"], cwd=folder, capture_output=True, text=True, check=False)
+    taken = time.perf_counter() - began
+    if run.returncode != 0:
+        sys.exit(f"the program ended with status {run.returncode}: {run.stdout}")
+    return taken
+
+
+def annealed(annealer, folder):
+    """The annealer's time for its proposals in nanoseconds, its last score, and how many it accepted."""
+    run = subprocess.run([annealer, "."], cwd=folder, capture_output=True, text=True, check=True)
+    nanoseconds, score, accepted = run.stdout.split()
+    return int(nanoseconds), score, int(accepted)
+
+
+def measure(folder, start, proposals, annealer):
+    """The program's time for a proposal by each number of workers, and the annealer's, in nanoseconds: the least of
+    some rounds, in each of which every run is made once, so that a slow moment of the machine tells on all."""
+    crews = WORKERS if PROGRAM.exists() else []
+    none, whole, simple = {}, {}, []
     for _ in range(ROUNDS):
-        began = time.perf_counter()
-        run = subprocess.run([PROGRAM, "input.dat", f"{workers}"], cwd=folder, capture_output=True, text=True,
-                             check=False)
-        times.append(time.perf_counter() - began)
-        if run.returncode != 0:
-            sys.exit(f"the program ended with status {run.returncode}: {run.stdout}")
-    return min(times)
+        ask(folder, start, 0)
+        for workers in crews:
+            none.setdefault(workers, []).append(seconds(folder, workers))
+        ask(folder, start, proposals)
+        for workers in crews:
+            whole.setdefault(workers, []).append(seconds(folder, workers))
+        if annealer:
+            simple.append(annealed(annealer, folder)[0])
+    times = {workers: (min(whole[workers]) - min(none[workers])) / proposals * 1e9 for workers in crews}
+    return times, min(simple) / proposals if simple else None
 
 
-def proved(folder, proposals, workers):
-    """The program's time for a proposal, in nanoseconds."""
-    none = seconds(folder, 0, workers)
-    return (seconds(folder, proposals, workers) - none) / proposals * 1e9
-
-
-def overtaken(folder, proposals, workers):
+def overtaken(folder, workers, proposals):
     """How many of 1,000 proposals were overtaken, each time counted."""
     if not COUNTER.exists():
         return "not counted"
-    ask(folder, proposals)
     run = subprocess.run([COUNTER, "input.dat", f"{workers}"], cwd=folder, capture_output=True, text=True, check=True)
     counts = dict(line.split() for line in run.stdout.splitlines())
     return f"{1000 * int(counts['again']) / proposals:.2f}"
 
 
-def plain(annealer, folder, proposals):
-    """The annealer's least time for a proposal, in nanoseconds, and its last score."""
-    ask(folder, proposals)
-    runs = [subprocess.run([annealer, "."], cwd=folder, capture_output=True, text=True, check=True).stdout.split()
-            for _ in range(ROUNDS)]
-    return min(int(nanoseconds) for nanoseconds, _ in runs) / proposals, runs[0][1]
+def verdict(folder, annealer, proposals):
+    """How many of 1,000 proposals the annealer accepted, its score, and whether its best file is that of one worker of
+    the program."""
+    seconds(folder, 1)
+    _, score, accepted = annealed(annealer, folder)
+    same = (folder / "output_best.csv").read_bytes() == (folder / "plain_best.csv").read_bytes()
+    return [f"{1000 * accepted / proposals:.0f}", f"{score}, {'same best file' if same else 'the best files differ'}"]
 
 
-def compare(name, folder, proposals, annealer):
+def compare(name, folder, start, proposals, annealer):
     """Prints a line for each number of workers."""
-    simple, score = plain(annealer, folder, proposals) if annealer else (None, "")
-    for workers in WORKERS if PROGRAM.exists() else []:
-        time_of_one = proved(folder, proposals, workers)
-        cells = [name, f"{workers}", f"{time_of_one:.0f} ns"]
+    times, simple = measure(folder, start, proposals, annealer)
+    for workers, taken in times.items():
+        cells = [name, f"{workers}", f"{taken:.0f} ns", f"{times[1] / taken:.2f}"]
         if annealer:
-            cells += [f"{simple:.0f} ns", f"{time_of_one / simple:.2f}"]
-        cells.append(overtaken(folder, proposals, workers))
+            cells += [f"{simple:.0f} ns", f"{taken / simple:.2f}"]
+        cells.append(overtaken(folder, workers, proposals))
         if annealer and workers == 1:
-            same = (folder / "output_best.csv").read_bytes() == (folder / "plain_best.csv").read_bytes()
-            cells.append(f"{score}, {'same best file' if same else 'the best files differ'}")
+            cells += verdict(folder, annealer, proposals)
         print("| " + " | ".join(cells) + " |", flush=True)
 
 
@@ -197,7 +215,7 @@ def main():
             folder.mkdir()
             for file, text in project(REGIONS[region]).items():
                 (folder / file).write_text(text)
-            compare(region, folder, proposals, annealer)
+            compare(region, folder, REGIONS[region].start, proposals, annealer)
 
 
 if __name__ == "__main__":

@@ -16,6 +16,8 @@ const ZONE_FEATURE: usize = 0;
 const FULL: usize = 2;
 const SAMPLE_SEAT: u64 = 61;
 const SAMPLES: usize = 1000;
+/// The temperature of one score unit: a thousand of its ten-thousandths.
+const DEGREE: u128 = 10_000_000;
 
 struct Pcg32 {
     state: u64,
@@ -278,7 +280,7 @@ impl Region {
 }
 
 /// The temperatures of the levels, by the changes of the sample's draws on the starting plan.
-fn temperatures(region: &Region, state: &State, seed: u64, levels: usize) -> Vec<u128> {
+fn found_temperatures(region: &Region, state: &State, seed: u64, levels: usize) -> Vec<u128> {
     let mut words = Pcg32::new(seed, 64 + SAMPLE_SEAT);
     let sizes: Vec<u64> = (0..SAMPLES)
         .map(|_| {
@@ -323,9 +325,14 @@ fn main() {
     let region = Region::read(&folder);
     let mut state = region.start();
     let began = Instant::now();
-    let temperatures = temperatures(&region, &state, seed, levels);
+    // One that is given stays, since the projects of the bench give no factor.
+    let temperatures = match u128::try_from(keys["STARTTEMP"]) {
+        Ok(given) => vec![given * DEGREE; levels],
+        Err(_) => found_temperatures(&region, &state, seed, levels),
+    };
     let stairs = staircase();
     let mut words = Pcg32::new(seed, 64);
+    let mut accepted = 0;
     for position in 0..proposals {
         let draw = region.draw(&mut words);
         let new = region.moved(&state.plan, &draw);
@@ -333,6 +340,7 @@ fn main() {
         let temperature = temperatures[position * levels / proposals];
         if is_accepted(&stairs, change, temperature, draw.word) {
             region.accept(&mut state, draw.unit, new, change);
+            accepted += 1;
         }
     }
     let nanoseconds = began.elapsed().as_nanos();
@@ -346,5 +354,5 @@ fn main() {
         text += &format!("{name},{}.{:04}\n", number / UNIT, number % UNIT);
     }
     fs::write(format!("{folder}/plain_best.csv"), text).unwrap();
-    println!("{nanoseconds} {}.{:04}", state.score / UNIT, state.score % UNIT);
+    println!("{nanoseconds} {}.{:04} {accepted}", state.score / UNIT, state.score % UNIT);
 }

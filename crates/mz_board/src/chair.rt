@@ -1,4 +1,5 @@
 //! A chair at a board.
+use crate::patience::VainTurns;
 use crate::story::Story;
 use crate::view::View;
 use atomic_table::Seat;
@@ -12,6 +13,7 @@ pub struct Chair<T: Story> {
     pub(crate) number: u8,
     /// The front to publish, once the chair has appended an entry in its turn.
     pub(crate) front: Option<u64>,
+    pub(crate) vain: VainTurns,
     pub(crate) seat: Seat<Option<T>, View<T::Entry, T::Setting>>,
 }
 

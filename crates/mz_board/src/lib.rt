@@ -10,6 +10,7 @@ mod chair;
 mod growth;
 mod invariant;
 mod note;
+mod patience;
 mod post;
 mod steps;
 mod story;

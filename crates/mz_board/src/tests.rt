@@ -91,6 +91,7 @@ fn load_items(board: &Board<Log>, chair: &mut Chair<Log>) -> [u64; 4]
     requires { (chair.old.lock ≡ board.now) × (chair.old.taken ≡ None) × (4 ≤ length chair.old.lock.opening) }
     ensures { (chair.new.lock ≡ chair.old.lock) × (chair.new.taken ≡ None) × (chair.new.number ≡ chair.old.number) }
 {
+    board.prefetch(3);
     board.load_front(chair);
     let first = board.load_item(chair, 0);
     let second = board.load_item(chair, 1);

@@ -91,6 +91,7 @@ impl Ahead {
         if self.taken == AT_ONCE {
             self.draws = next_draws(problem, store, pass, drawer);
             self.taken = 0;
+            prefetch(store, &self.draws);
         }
     }
 
@@ -128,4 +129,13 @@ fn next_draws(problem: &Problem, store: &Store, pass: &Pass, drawer: &mut Drawer
         draws[place] = drawer.next(free, counts);
     }
     draws
+}
+
+/// Brings near what the looks at the drawn units will need: many loads at once take little longer than one.
+fn prefetch(store: &Store, draws: &[Draw])
+    requires { All (λ draw. draw.unit < unit_count store.now.run.setting.parts) draws.now }
+{
+    for draw in draws {
+        store.prefetch(draw.unit);
+    }
 }

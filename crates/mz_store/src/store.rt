@@ -21,6 +21,7 @@ mod changes;
 mod commits;
 mod leaves;
 mod looks;
+mod prefetches;
 
 /// A run under a board: passes look at its plan without waiting, judge their moves, and commit them in turns. Contracts
 /// see which store it is, and what its run is played with.

@@ -5,6 +5,7 @@ ghost use Rattle.mz_board.specs.Gathering.{dealt_to, Gathers};
 
 use super::{Board, LOCK};
 use crate::chair::{Chair, Place};
+use crate::patience::VainTurns;
 use crate::steps::{Both, Deal, Enter};
 use crate::story::Story;
 
@@ -26,6 +27,7 @@ impl<T: Story + Send + Drop> Board<T> {
             chairs.push_reserved(Chair {
                 number,
                 front: None,
+                vain: VainTurns::all(),
                 seat: dealt,
             });
         }
@@ -44,6 +46,7 @@ impl<T: Story + Send + Drop> Board<T> {
             let Chair {
                 number: _,
                 front: _,
+                vain: _,
                 seat: other,
             } = chair;
             shared.join_seat::<Both>(&mut seat, other);

@@ -36,4 +36,12 @@ impl<T: Story + Send + Drop> Board<T> {
             .shared
             .load::<LoadItem<T>>(&mut chair.seat, ITEMS + item as usize)
     }
+
+    /// Brings the word of an item near, so that a later load of it is quick. It tells nothing and changes nothing.
+    #[inline]
+    pub fn prefetch(&self, item: u32)
+        requires { item < length self.now.opening }
+    {
+        self.table.shared.peek(ITEMS + item as usize);
+    }
 }

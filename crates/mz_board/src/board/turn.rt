@@ -23,7 +23,7 @@ impl<T: Story + Send + Drop> Board<T> {
         ensures now { TookTurn chair.old chair.new (T.entries result) }
     {
         for _ in rt.forever() {
-            self.stay_away();
+            self.stay_away(chair.vain);
             match self.try_take(chair) {
                 Ok(value) => return value,
                 Err(other) => self.sleep(rt, other),
@@ -96,6 +96,7 @@ impl<T: Story + Send + Drop> Board<T> {
     {
         let shared = &self.table.shared;
         self.publish(&mut chair.seat, chair.front);
+        chair.vain.count(chair.front.is_none());
         chair.front = None;
         drop(shared.exchange(&mut chair.seat, 0, Some(value)));
         shared.swap::<Release<T>>(&mut chair.seat, LOCK, 0);

@@ -1,26 +1,33 @@
 //! Waiting for the turn: first by looks at the lock word, then asleep.
 use super::{Board, LOCK};
+use crate::patience::VainTurns;
 use crate::story::Story;
 use crossbeam_utils::Backoff;
 use std::sync::Wait;
 use std::sync::atomic::Ordering;
 
-/// How many whole back-offs a chair rests behind each look, before it tries all the same.
-const RESTS: [u32; 4] = [8, 16, 32, 64];
+/// The rest behind the last look is as long as this power of two of whole back-offs, and each one before it half as long
+/// as the next.
+const LAST_REST: u32 = 6;
+
+/// The first rest of a chair whose turns are often in vain.
+const PATIENT_REST: u32 = 3;
 
 /// So many rounds complete a `Backoff`: the first seven spin, the others yield the processor.
 const ROUNDS: u32 = 11;
 
 impl<T: Story + Send + Drop> Board<T> {
     // Stays away while another chair has the turn, but for a bounded number of looks. A look takes the lock word's cache
-    // line from the chair that has the turn, and a turn takes the lines of the value from the one before it. A chair
-    // that rests for the time of many turns lets another have these in a row, which is quicker for both.
-    pub(super) fn stay_away(&self) {
-        for backoffs in RESTS {
+    // line from the chair that has the turn, and a turn takes the lines of the value from the one before it: so rests
+    // get longer. Where turns are often in vain, chairs that work at once spoil each other's work: one that rests for
+    // the time of many turns lets another have these in a row, which is quicker for both.
+    pub(super) fn stay_away(&self, vain: VainTurns) {
+        let first = if vain.are_often() { PATIENT_REST } else { 0 };
+        for power in first..=LAST_REST {
             if self.table.shared.peek(LOCK) == 0 {
                 return;
             }
-            rest(backoffs);
+            rest(1 << power);
         }
     }
 

@@ -41,6 +41,7 @@ pub(super) fn propose(problem: &Problem, seed: u64, store: &Store, pass: &mut Pa
     let mut drawer = Drawer::new(seed, 1, pass.seat());
     drawer.skip(number);
     let draw = drawer.next(problem.free(), problem.counts());
+    store.prefetch(draw.unit);
     store.look(pass, draw.unit, &mut desk.reading);
     judge(problem, &desk.reading, draw, &mut desk.judged);
 }
